@@ -1,0 +1,37 @@
+-- Laws of lists of bytes that the kit's library lacks.
+use mathlib.Core.Path.{_≡_, refl, ap, _∙_}
+use mathlib.Core.List.{List, [], _∷_, _++_}
+use Prim.Native.Nat.{ℕ, zero, suc, _+_, _-_, _≤_, _<_}
+use native.Mathlib.Omega.{arith}
+use lib.ListN.{length, getD, List·getD-append}
+use lib.Seq.{getD-append-add}
+use Rattle.octets.specs.Bytes.{Bytes}
+
+-- a slice's elements are bytes
+pub bytes : (s : List ℕ) → ((k : ℕ) → getD s k 0 < 256) → Bytes s
+bytes [] f = tt
+bytes (c ∷ cs) f = (f 0, bytes cs (λ (k : ℕ). f (suc k)))
+
+pub bytes-append : (s t : List ℕ) → Bytes s → Bytes t → Bytes (s ++ t)
+bytes-append [] t a b = b
+bytes-append (c ∷ cs) t a b = (a .0, bytes-append cs t (a .1) b)
+
+pub byte-at : (s : List ℕ) → Bytes s → (k : ℕ) → getD s k 0 < 256
+byte-at [] b k = omega arith
+byte-at (c ∷ cs) b zero = b .0
+byte-at (c ∷ cs) b (suc k) = byte-at cs (b .1) k
+
+-- inside a list the default does not count
+pub default : (l : List ℕ) (j d e : ℕ) → j < length l → getD l j d ≡ getD l j e
+default [] j d e h = absurd (omega arith)
+default (x ∷ xs) zero d e h = refl
+default (x ∷ xs) (suc j) d e h = default xs j d e (omega arith)
+
+-- an element of two lists joined
+pub at-left : (xs ys : List ℕ) (j : ℕ) → j < length xs → getD (xs ++ ys) j 0 ≡ getD xs j 0
+at-left xs ys j h = List·getD-append {A = ℕ} xs ys 0 j h
+
+pub at-right : (xs ys : List ℕ) (j : ℕ) → length xs ≤ j → getD (xs ++ ys) j 0 ≡ getD ys (j - length xs) 0
+at-right xs ys j h =
+    let e : j ≡ length xs + (j - length xs) = omega arith in
+    ap (λ (n : ℕ). getD (xs ++ ys) n 0) e ∙ getD-append-add xs ys (j - length xs) 0
