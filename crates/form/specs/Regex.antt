@@ -15,6 +15,7 @@ pub data Re : Type 0 where
   seq : Re → Re → Re
   alt : Re → Re → Re
   upto : ℕ → Re → Re
+  deriving Discrete as Re-discrete
 
 infixr 5 _·_
 infixr 4 _∣_

@@ -1,0 +1,144 @@
+-- A table judges as its form does, where one computed test passes: at each state, for the end of the text and for each byte, the table
+-- stops where nothing is left of the form, and else goes to the state of what is left.
+use mathlib.Core.Path.{_≡_, refl, sym, ap, _∙_}
+use mathlib.Core.Bool.{Bool, true, false, not, cond}
+use mathlib.Core.List.{List, [], _∷_, map}
+use Prim.Native.Nat.{ℕ, zero, suc, _+_, _*_, _<_, _≤_}
+use native.Mathlib.Omega.{arith}
+use native.Mathlib.Numerals.{add-one}
+use lib.Dec.{T, eqb, ltb, ltb→lt, eqb→eq}
+use lib.ListN.{length, getD, drop}
+use lib.Seq.{drop-cons, drop-length}
+use borrow.Author.Tests.{eq-eqb, ne-eqb}
+use Rattle.octets.specs.Bytes.{Bytes}
+use Rattle.octets.proofs.Computed.{both, both-left, both-right, below, below-at}
+use Rattle.form.specs.Regex.{Re, none, empty, range, seq, alt, upto, alive, nullable, deriv, isNone, judgeFrom, judge}
+use Rattle.form.specs.Machine.{entry, named, counted, machine}
+use Rattle.form.specs.declared.Verdict.{Verdict}
+use Rattle.form.specs.declared.Verdict.the-variants.{Fits, Stops}
+use Rattle.form.proofs.Same.{same, same-eq}
+use Rattle.form.proofs.Steps.{left, is-true}
+
+-- one step: to t, where d is left
+abbrev goesAt : List Re → Re → ℕ → Bool
+goesAt rs d t = cond (eqb t 255) (isNone d) (both (ltb t (length rs)) (both (same d (getD rs t none)) (alive d)))
+
+abbrev endsAt : Re → ℕ → Bool
+endsAt r t = cond (eqb t 255) (not (nullable r)) (nullable r)
+
+abbrev row : List ℕ → List ℕ → List Re → ℕ → Bool
+row class next rs q =
+    both (endsAt (getD rs q none) (entry next q 0)) (below 256 (λ c. goesAt rs (deriv c (getD rs q none)) (entry next q (getD class c 0))))
+
+abbrev rows : List ℕ → List ℕ → List Re → Bool
+rows class next rs = below (length rs) (row class next rs)
+
+-- the test, where each word leads to a state
+abbrev pub goes : Re → List ℕ → List ℕ → List (List ℕ) → Bool
+goes r class next words = rows class next (map (left r) words)
+
+end-law : (x y : Bool) (n : ℕ) → T (cond x (not y) y) → cond x (Stops n) Fits ≡ cond y Fits (Stops n)
+end-law true true n t = absurd t
+end-law true false n t = refl
+end-law false true n t = refl
+end-law false false n t = absurd t
+
+none-dead : (r : Re) → T (isNone r) → alive r ≡ false
+none-dead none t = refl
+none-dead empty t = absurd t
+none-dead (range a b) t = absurd t
+none-dead (seq p q) t = absurd t
+none-dead (alt p q) t = absurd t
+none-dead (upto n r) t = absurd t
+
+step-law : (x : Bool) (rs : List Re) (d : Re) (t n : ℕ) (m : Verdict) (cs : List ℕ) →
+    T (cond x (isNone d) (both (ltb t (length rs)) (both (same d (getD rs t none)) (alive d)))) →
+    (t < length rs → m ≡ judgeFrom (getD rs t none) (suc n) cs) →
+    cond x (Stops n) m ≡ cond (alive d) (judgeFrom d (suc n) cs) (Stops n)
+step-law true rs d t n m cs h k = simp (none-dead d h)
+step-law false rs d t n m cs h k =
+    let a = both-left (ltb t (length rs)) (both (same d (getD rs t none)) (alive d)) h in
+    let b = both-right (ltb t (length rs)) (both (same d (getD rs t none)) (alive d)) h in
+    let e = same-eq d (getD rs t none) (both-left (same d (getD rs t none)) (alive d) b) in
+    let l = is-true (alive d) (both-right (same d (getD rs t none)) (alive d) b) in
+    rw l (k (ltb→lt t (length rs) a) ∙ ap (λ (r : Re). judgeFrom r (suc n) cs) (sym e))
+
+module _ (class next : List ℕ) (rs : List Re) (ok : T (rows class next rs)) where
+  row-at : (q : ℕ) → q < length rs → T (row class next rs q)
+  row-at q h = below-at (length rs) (row class next rs) ok q h
+
+  abbrev each : ℕ → ℕ → Bool
+  each q c = goesAt rs (deriv c (getD rs q none)) (entry next q (getD class c 0))
+
+  pub law : (s : List ℕ) → Bytes s → (n q : ℕ) → q < length rs → machine named class next n q s ≡ judgeFrom (getD rs q none) n s
+  unfolding machine
+  law [] b n q h =
+      end-law (eqb (entry next q 0) 255) (nullable (getD rs q none)) n
+      (both-left (endsAt (getD rs q none) (entry next q 0)) (below 256 (each q)) (row-at q h))
+  law (c ∷ cs) b n q h =
+      step-law (eqb (entry next q (getD class c 0)) 255) rs (deriv c (getD rs q none)) (entry next q (getD class c 0)) n _ cs
+      (below-at 256 (each q) (both-right (endsAt (getD rs q none) (entry next q 0)) (below 256 (each q)) (row-at q h)) c (b .0))
+      (law cs (b .1) (suc n) (entry next q (getD class c 0)))
+
+-- where the words after the empty one lead to the other states, the table judges as the form does
+pub judges : (r : Re) (words : List (List ℕ)) (v : Verdict) (class next s : List ℕ) → v ≡ machine named class next 0 0 s → Bytes s →
+    T (goes r class next ([] ∷ words)) → v ≡ judge r s
+judges r words v class next s e b ok = e ∙ law class next (map (left r) ([] ∷ words)) ok s b 0 0 (omega arith)
+
+-- a table of m states in which each leads to the next only: they count the bytes passed
+abbrev onlyNext : ℕ → ℕ → ℕ → Bool
+onlyNext m q t = cond (eqb t 255) true (both (eqb t (q + 1)) (ltb (q + 1) m))
+
+abbrev pub straightly : List ℕ → List ℕ → ℕ → Bool
+straightly class next m = below m (λ q. below 256 (λ c. onlyNext m q (entry next q (getD class c 0))))
+
+straight-step : (x : Bool) (m n q t : ℕ) (v : Verdict) (f : ℕ → Verdict) → T (cond x true (both (eqb t (q + 1)) (ltb (q + 1) m))) →
+    (q + 1 < m → v ≡ f (q + 1)) → cond x (Stops n) v ≡ cond x (Stops n) (f t)
+straight-step true m n q t v f h k = refl
+straight-step false m n q t v f h k =
+    k (ltb→lt (q + 1) m (both-right (eqb t (q + 1)) (ltb (q + 1) m) h))
+    ∙ ap f (sym (eqb→eq t (q + 1) (both-left (eqb t (q + 1)) (ltb (q + 1) m) h)))
+
+pub straight : (class next : List ℕ) (m : ℕ) → T (straightly class next m) → (s : List ℕ) → Bytes s → (n q : ℕ) → q < m →
+    machine counted class next n q s ≡ machine named class next n q s
+unfolding machine
+straight class next m ok [] b n q h = refl
+straight class next m ok (c ∷ cs) b n q h =
+    straight-step (eqb (entry next q (getD class c 0)) 255) m n q (entry next q (getD class c 0)) (machine counted class next (suc n) (q + 1) cs)
+    (λ x. machine named class next (suc n) x cs)
+    (below-at 256 (λ x. onlyNext m q (entry next q (getD class x 0)))
+    (below-at m (λ y. below 256 (λ x. onlyNext m y (entry next y (getD class x 0)))) ok q h) c (b .0))
+    (straight class next m ok cs (b .1) (suc n) (q + 1))
+
+pub judges-straight : (r : Re) (words : List (List ℕ)) (v : Verdict) (class next s : List ℕ) → v ≡ machine counted class next 0 0 s → Bytes s →
+    T (both (straightly class next (length ([] ∷ words))) (goes r class next ([] ∷ words))) → v ≡ judge r s
+judges-straight r words v class next s e b ok =
+    let x = straightly class next (length ([] ∷ words)) in
+    let y = goes r class next ([] ∷ words) in
+    judges r words v class next s (e ∙ straight class next (length ([] ∷ words)) (both-left x y ok) s b 0 0 (omega arith)) b (both-right x y ok)
+
+-- what the loops step by: the verdict on the bytes to come is the verdict on the whole, and the entry t decides
+module _ (to : ℕ → ℕ → ℕ) (class next s : List ℕ) (i q t : ℕ) (whole : Verdict) (inv : machine to class next i q (drop i s) ≡ whole) where
+  module _ (h : i < length s) (e : t ≡ entry next q (getD class (getD s i 0) 0)) where
+    turn : machine to class next i q (drop i s) ≡ cond (eqb t 255) (Stops i) (machine to class next (i + 1) (to q t) (drop (i + 1) s))
+    unfolding machine
+    turn = rw (drop-cons s i 0 h, add-one, e)
+
+    pub stop-at : t ≡ 255 → Stops i ≡ whole
+    stop-at f = sym (turn ∙ simp (eq-eqb t 255 f)) ∙ inv
+
+    pub go-on : (t ≡ 255 → ⊥) → machine to class next (i + 1) (to q t) (drop (i + 1) s) ≡ whole
+    go-on f = sym (turn ∙ simp (ne-eqb t 255 f)) ∙ inv
+
+  module _ (h : i ≤ length s) (k : length s ≤ i) (e : t ≡ entry next q 0) where
+    ends : machine to class next i q (drop i s) ≡ cond (eqb t 255) (Stops i) Fits
+    unfolding machine
+    ends =
+        let l : i ≡ length s = omega arith in
+        ap (λ (z : List ℕ). machine to class next i q z) (ap (λ (x : ℕ). drop x s) l ∙ drop-length s) ∙ rw e refl
+
+    pub stop-end : t ≡ 255 → Stops i ≡ whole
+    stop-end f = sym (ends ∙ simp (eq-eqb t 255 f)) ∙ inv
+
+    pub fit-end : (t ≡ 255 → ⊥) → Fits ≡ whole
+    fit-end f = sym (ends ∙ simp (ne-eqb t 255 f)) ∙ inv

@@ -1,0 +1,5 @@
+pub mod Same
+pub mod Meaning
+pub mod Steps
+pub mod Words
+pub mod Judged

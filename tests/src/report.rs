@@ -1,0 +1,58 @@
+//! The lines that are printed: one for each group of checks, and the sum at the end.
+
+use std::fmt::Debug;
+
+/// The first difference of a group, in words.
+pub type Difference = String;
+
+/// One group while it runs: counts what is compared and stops at the first difference.
+pub struct Group {
+    compared: u64,
+}
+
+impl Group {
+    /// `about` is asked only on a difference.
+    pub fn same<T: PartialEq + Debug>(&mut self, ours: T, expected: T, about: impl Fn() -> String) -> Result<(), Difference> {
+        self.compared += 1;
+        if ours == expected {
+            return Ok(());
+        }
+        Err(format!("{}: {:?}, expected {:?}", about(), ours, expected))
+    }
+}
+
+#[derive(Default)]
+pub struct Report {
+    passed: u64,
+    failed: u64,
+}
+
+impl Report {
+    pub fn group(&mut self, name: &str, checks: impl FnOnce(&mut Group) -> Result<(), Difference>) {
+        let mut group = Group { compared: 0 };
+        match checks(&mut group) {
+            Ok(()) => {
+                self.passed += 1;
+                println!("ok {} ({} compared)", name, group.compared);
+            }
+            Err(difference) => {
+                self.failed += 1;
+                println!("FAILED {}: first difference {}", name, difference);
+            }
+        }
+    }
+
+    /// Prints the last line; true if nothing failed.
+    pub fn finish(self) -> bool {
+        println!("{} passed, {} failed", self.passed, self.failed);
+        self.failed == 0
+    }
+}
+
+/// A text as one can read it in a printed line.
+pub fn shown(text: &[u8]) -> String {
+    const MOST: usize = 120;
+    let start: String = text.iter().take(MOST).map(|byte| byte.escape_ascii().to_string()).collect();
+    let more = if text.len() > MOST { ".." } else { "" };
+    format!("\"{}{}\" ({} bytes)", start, more, text.len())
+}
