@@ -1,17 +1,18 @@
 -- A table judges as its form does, where one computed test passes: at each state, for the end of the text and for each byte, the table
 -- stops where nothing is left of the form, and else goes to the state of what is left.
-use mathlib.Core.Path.{_≡_, refl, sym, ap, _∙_}
+use mathlib.Core.Path.{_≡_, refl, sym, ap, subst, _∙_}
 use mathlib.Core.Bool.{Bool, true, false, not, cond}
 use mathlib.Core.List.{List, [], _∷_, map}
 use Prim.Native.Nat.{ℕ, zero, suc, _+_, _*_, _<_, _≤_}
 use native.Mathlib.Omega.{arith}
 use native.Mathlib.Numerals.{add-one}
 use lib.Dec.{T, eqb, ltb, ltb→lt, eqb→eq}
-use lib.ListN.{length, getD, drop}
-use lib.Seq.{drop-cons, drop-length}
+use lib.ListN.{length, getD, drop, List·getD-eq-default}
+use lib.Seq.{drop-cons, drop-drop, drop-length, getD-drop}
 use borrow.Author.Tests.{eq-eqb, ne-eqb}
 use Rattle.octets.specs.Bytes.{Bytes}
-use Rattle.octets.proofs.Computed.{both, both-left, both-right, below, below-at}
+use Rattle.octets.proofs.Lists.{default}
+use Rattle.octets.proofs.Computed.{both, both-left, both-right, below, below-at, every, every-at}
 use Rattle.form.specs.Regex.{Re, none, empty, range, seq, alt, upto, alive, nullable, deriv, isNone, judgeFrom, judge}
 use Rattle.form.specs.Machine.{entry, named, counted, machine}
 use Rattle.form.specs.declared.Verdict.{Verdict}
@@ -26,16 +27,18 @@ goesAt rs d t = cond (eqb t 255) (isNone d) (both (ltb t (length rs)) (both (sam
 abbrev endsAt : Re → ℕ → Bool
 endsAt r t = cond (eqb t 255) (not (nullable r)) (nullable r)
 
-abbrev row : List ℕ → List ℕ → List Re → ℕ → Bool
-row class next rs q =
-    both (endsAt (getD rs q none) (entry next q 0)) (below 256 (λ c. goesAt rs (deriv c (getD rs q none)) (entry next q (getD class c 0))))
+-- the row of a state with r left: the end of the text, and each byte by its class
+abbrev row : List ℕ → List Re → Re → List ℕ → Bool
+row class rs r line = both (endsAt r (getD line 0 255)) (every (λ c k. goesAt rs (deriv c r) (getD line k 255)) 0 class)
 
-abbrev rows : List ℕ → List ℕ → List Re → Bool
-rows class next rs = below (length rs) (row class next rs)
+-- the rows of the states, in order
+abbrev rows : List ℕ → List Re → List Re → List ℕ → Bool
+rows class rs [] next = true
+rows class rs (r ∷ more) next = both (row class rs r next) (rows class rs more (drop 32 next))
 
 -- the test, where each word leads to a state
 abbrev pub goes : Re → List ℕ → List ℕ → List (List ℕ) → Bool
-goes r class next words = rows class next (map (left r) words)
+goes r class next words = both (eqb (length class) 256) (rows class (map (left r) words) (map (left r) words) next)
 
 end-law : (x y : Bool) (n : ℕ) → T (cond x (not y) y) → cond x (Stops n) Fits ≡ cond y Fits (Stops n)
 end-law true true n t = absurd t
@@ -63,34 +66,49 @@ step-law false rs d t n m cs h k =
     let l = is-true (alive d) (both-right (same d (getD rs t none)) (alive d) b) in
     rw l (k (ltb→lt t (length rs) a) ∙ ap (λ (r : Re). judgeFrom r (suc n) cs) (sym e))
 
-module _ (class next : List ℕ) (rs : List Re) (ok : T (rows class next rs)) where
-  row-at : (q : ℕ) → q < length rs → T (row class next rs q)
-  row-at q h = below-at (length rs) (row class next rs) ok q h
+row-at : (class : List ℕ) (rs : List Re) (qs : List Re) (next : List ℕ) → T (rows class rs qs next) → (q : ℕ) → q < length qs →
+    T (row class rs (getD qs q none) (drop (q * 32) next))
+row-at class rs [] next t q h = absurd (omega arith)
+row-at class rs (r ∷ more) next t zero h = both-left (row class rs r next) (rows class rs more (drop 32 next)) t
+row-at class rs (r ∷ more) next t (suc q) h =
+    let e : 32 + q * 32 ≡ suc q * 32 = omega arith in
+    subst (λ (l : List ℕ). T (row class rs (getD more q none) l)) (drop-drop (q * 32) 32 next ∙ ap (λ (k : ℕ). drop k next) e)
+    (row-at class rs more (drop 32 next) (both-right (row class rs r next) (rows class rs more (drop 32 next)) t) q (omega arith))
 
-  abbrev each : ℕ → ℕ → Bool
-  each q c = goesAt rs (deriv c (getD rs q none)) (entry next q (getD class c 0))
+module _ (class next : List ℕ) (rs : List Re) (all : length class ≡ 256) (ok : T (rows class rs rs next)) where
+  abbrev at-end : ℕ → Bool
+  at-end q = endsAt (getD rs q none) (entry next q 0)
+
+  abbrev at-byte : ℕ → ℕ → ℕ → Bool
+  at-byte q c k = goesAt rs (deriv c (getD rs q none)) (entry next q k)
 
   pub law : (s : List ℕ) → Bytes s → (n q : ℕ) → q < length rs → machine named class next n q s ≡ judgeFrom (getD rs q none) n s
   unfolding machine
   law [] b n q h =
       end-law (eqb (entry next q 0) 255) (nullable (getD rs q none)) n
-      (both-left (endsAt (getD rs q none) (entry next q 0)) (below 256 (each q)) (row-at q h))
+      (both-left (at-end q) (every (at-byte q) 0 class) (row-at class rs rs next ok q h))
   law (c ∷ cs) b n q h =
       step-law (eqb (entry next q (getD class c 0)) 255) rs (deriv c (getD rs q none)) (entry next q (getD class c 0)) n _ cs
-      (below-at 256 (each q) (both-right (endsAt (getD rs q none) (entry next q 0)) (below 256 (each q)) (row-at q h)) c (b .0))
+      (every-at (at-byte q) class (both-right (at-end q) (every (at-byte q) 0 class) (row-at class rs rs next ok q h)) c (omega (arith, b .0)))
       (law cs (b .1) (suc n) (entry next q (getD class c 0)))
 
 -- where the words after the empty one lead to the other states, the table judges as the form does
 pub judges : (r : Re) (words : List (List ℕ)) (v : Verdict) (class next s : List ℕ) → v ≡ machine named class next 0 0 s → Bytes s →
     T (goes r class next ([] ∷ words)) → v ≡ judge r s
-judges r words v class next s e b ok = e ∙ law class next (map (left r) ([] ∷ words)) ok s b 0 0 (omega arith)
+judges r words v class next s e b ok =
+    let rs = map (left r) ([] ∷ words) in
+    let x = eqb (length class) 256 in
+    e ∙ law class next rs (eqb→eq (length class) 256 (both-left x (rows class rs rs next) ok)) (both-right x (rows class rs rs next) ok) s b 0 0 (omega arith)
 
 -- a table of m states in which each leads to the next only: they count the bytes passed
 abbrev onlyNext : ℕ → ℕ → ℕ → Bool
 onlyNext m q t = cond (eqb t 255) true (both (eqb t (q + 1)) (ltb (q + 1) m))
 
+abbrev straightRow : List ℕ → ℕ → ℕ → List ℕ → Bool
+straightRow class m q line = every (λ c k. onlyNext m q (getD line k 255)) 0 class
+
 abbrev pub straightly : List ℕ → List ℕ → ℕ → Bool
-straightly class next m = below m (λ q. below 256 (λ c. onlyNext m q (entry next q (getD class c 0))))
+straightly class next m = both (eqb (length class) 256) (below m (λ q. straightRow class m q (drop (q * 32) next)))
 
 straight-step : (x : Bool) (m n q t : ℕ) (v : Verdict) (f : ℕ → Verdict) → T (cond x true (both (eqb t (q + 1)) (ltb (q + 1) m))) →
     (q + 1 < m → v ≡ f (q + 1)) → cond x (Stops n) v ≡ cond x (Stops n) (f t)
@@ -106,8 +124,9 @@ straight class next m ok [] b n q h = refl
 straight class next m ok (c ∷ cs) b n q h =
     straight-step (eqb (entry next q (getD class c 0)) 255) m n q (entry next q (getD class c 0)) (machine counted class next (suc n) (q + 1) cs)
     (λ x. machine named class next (suc n) x cs)
-    (below-at 256 (λ x. onlyNext m q (entry next q (getD class x 0)))
-    (below-at m (λ y. below 256 (λ x. onlyNext m y (entry next y (getD class x 0)))) ok q h) c (b .0))
+    (every-at (λ x k. onlyNext m q (entry next q k)) class
+    (below-at m (λ y. straightRow class m y (drop (y * 32) next)) (both-right (eqb (length class) 256) _ ok) q h) c
+    (omega (arith, b .0, eqb→eq (length class) 256 (both-left (eqb (length class) 256) (below m (λ y. straightRow class m y (drop (y * 32) next))) ok))))
     (straight class next m ok cs (b .1) (suc n) (q + 1))
 
 pub judges-straight : (r : Re) (words : List (List ℕ)) (v : Verdict) (class next s : List ℕ) → v ≡ machine counted class next 0 0 s → Bytes s →
@@ -116,6 +135,13 @@ judges-straight r words v class next s e b ok =
     let x = straightly class next (length ([] ∷ words)) in
     let y = goes r class next ([] ∷ words) in
     judges r words v class next s (e ∙ straight class next (length ([] ∷ words)) (both-left x y ok) s b 0 0 (omega arith)) b (both-right x y ok)
+
+-- an entry, read at its place in the whole table
+pub entry-in : (next : List ℕ) (q k : ℕ) → q * 32 + k < length next → getD next (q * 32 + k) 0 ≡ entry next q k
+entry-in next q k h = default next (q * 32 + k) 0 255 h ∙ sym (getD-drop (q * 32) next k 255)
+
+pub entry-past : (next : List ℕ) (q k : ℕ) → length next ≤ q * 32 + k → 255 ≡ entry next q k
+entry-past next q k h = sym (getD-drop (q * 32) next k 255 ∙ List·getD-eq-default next 255 h)
 
 -- what the loops step by: the verdict on the bytes to come is the verdict on the whole, and the entry t decides
 module _ (to : ℕ → ℕ → ℕ) (class next s : List ℕ) (i q t : ℕ) (whole : Verdict) (inv : machine to class next i q (drop i s) ≡ whole) where

@@ -4,13 +4,13 @@ use Prim.Native.Nat.{ℕ, suc, _+_, _*_}
 use mathlib.Core.List.{List, [], _∷_}
 use mathlib.Core.Bool.{cond}
 use lib.Dec.{eqb}
-use lib.ListN.{getD}
+use lib.ListN.{getD, drop}
 use Rattle.form.specs.declared.Verdict.{Verdict}
 use Rattle.form.specs.declared.Verdict.the-variants.{Fits, Stops}
 
 -- what stands in the row of the state q for the class k
 abbrev pub entry : List ℕ → ℕ → ℕ → ℕ
-entry next q k = getD next (q * 32 + k) 255
+entry next q k = getD (drop (q * 32) next) k 255
 
 -- the state that a step leads to: the one that the table names, or, where the states count the bytes passed, the next
 abbrev pub named : ℕ → ℕ → ℕ
