@@ -3,3 +3,4 @@ pub mod Meaning
 pub mod Steps
 pub mod Words
 pub mod Judged
+pub mod Places

@@ -9,7 +9,21 @@ use lib.Dec.{T, leb}
 use lib.ListN.{length, take}
 use borrow.Author.Tests.{leb-true, le-leb}
 use Rattle.form.specs.Regex.{
-  Re, none, empty, range, seq, alt, upto, nullable, alive, isNone, seq′, alt′, deriv, judgeFrom, judge
+  Re,
+  none,
+  empty,
+  range,
+  seq,
+  alt,
+  upto,
+  nullable,
+  alive,
+  isNone,
+  seq′,
+  alt′,
+  deriv,
+  judgeFrom,
+  judge,
 }
 use Rattle.form.specs.Listings.{amountForm, idForm, dateTimeForm, conditionForm, packetForm, codeForm, nameForm, currencyForm}
 use Rattle.form.specs.Matches.{Matches, nothing, one, joined, left, right, stop, again, Begins, StopsInside, StopsShort}
@@ -222,7 +236,7 @@ fits-to r n (c ∷ s) m =
     let d = deriv-to m c s refl in
     rw (alive-to d) (fits-to (deriv c r) (suc n) s d)
 
-stops-fits : {A : Type 0} {n : ℕ} → Stops n ≡ Fits → A
+pub stops-fits : {A : Type 0} {n : ℕ} → Stops n ≡ Fits → A
 stops-fits e = absurd (let z : _≡_ {A = ℕ} 0 1 = cc in omega arith)
 
 fits-from : (r : Re) (n : ℕ) (s : List ℕ) → judgeFrom r n s ≡ Fits → Matches r s
@@ -267,7 +281,7 @@ dead-here r c s e t m =
     record {
       inside = omega arith;
       dead = λ u b w. true-false (sym e ∙ alive-to (deriv-to w c (b .0) (b .1)));
-      before = (t, (t, refl), m)
+      before = (t, (t, refl), m);
     }
 
 -- a byte passed before the stop
@@ -276,7 +290,7 @@ inside-after r c s k i =
     record {
       inside = omega (arith, i .inside);
       dead = λ t b m. i .dead (take (suc k) s ++ b .0) (b .0, refl) (deriv-to m c (take (suc k) s ++ b .0) (b .1));
-      before = let x = i .before in (c ∷ x .0, (x .1 .0, ap (λ (z : List ℕ). c ∷ z) (x .1 .1)), deriv-from c r (x .0) (x .2))
+      before = let x = i .before in (c ∷ x .0, (x .1 .0, ap (λ (z : List ℕ). c ∷ z) (x .1 .1)), deriv-from c r (x .0) (x .2));
     }
 
 short-after : (r : Re) (c : ℕ) (s : List ℕ) (k : ℕ) → StopsShort (deriv c r) s k → StopsShort r (c ∷ s) (suc k)
@@ -286,7 +300,7 @@ short-after r c s k i =
       unmatched = λ m. i .unmatched (deriv-to m c s refl);
       longer =
           let x = i .longer in
-          (c ∷ x .0, (x .1 .0, ap (λ (z : List ℕ). c ∷ z) (x .1 .1)), omega (arith, x .2), deriv-from c r (x .0) (x .3))
+          (c ∷ x .0, (x .1 .0, ap (λ (z : List ℕ). c ∷ z) (x .1 .1)), omega (arith, x .2), deriv-from c r (x .0) (x .3));
     }
 
 stops-from : (r : Re) → alive r ≡ true → (m : ℕ) (s : List ℕ) (n : ℕ) → judgeFrom r m s ≡ Stops n → Stopped r s m n
@@ -299,6 +313,7 @@ stops-from r l m (c ∷ s) n e = go (alive (deriv c r)) refl e (λ f. stops-from
   where
     after : (k : ℕ) → n ≡ suc m + k → (StopsInside (deriv c r) s k ⊎ StopsShort (deriv c r) s k) → Stopped r (c ∷ s) m n
     after k f w = (suc k, omega arith, ⊎-elim (λ i. inl (inside-after r c s k i)) (λ i. inr (short-after r c s k i)) w)
+
     go : (x : Bool) → alive (deriv c r) ≡ x → cond x (judgeFrom (deriv c r) (suc m) s) (Stops m) ≡ Stops n →
         (alive (deriv c r) ≡ true → judgeFrom (deriv c r) (suc m) s ≡ Stops n → Stopped (deriv c r) s (suc m) n) → Stopped r (c ∷ s) m n
     go true f h k = let x = k f h in after (x .0) (x .1) (x .2)

@@ -20,7 +20,6 @@ pub data Re : Type 0 where
 infixr 5 _·_
 infixr 4 _∣_
 infix 6 _⋯_
-
 -- the notations of a listing: one after the other, a choice, a class of characters from .. to, one character,
 -- {n}, {0,1} and {0,n}
 abbrev pub _·_ : Re → Re → Re
@@ -85,7 +84,7 @@ abbrev pub deriv : ℕ → Re → Re
 deriv c none = none
 deriv c empty = none
 deriv c (range a b) = cond (leb a c && leb c b) empty none
-deriv c (seq p q) = alt′ (seq′ (deriv c p) q) (cond (nullable p) (deriv c q) none)
+deriv c (seq p q) = let later = deriv c q in alt′ (seq′ (deriv c p) q) (cond (nullable p) later none)
 deriv c (alt p q) = alt′ (deriv c p) (deriv c q)
 deriv c (upto zero r) = none
 deriv c (upto (suc n) r) = seq′ (deriv c r) (upto n r)
@@ -93,7 +92,7 @@ deriv c (upto (suc n) r) = seq′ (deriv c r) (upto n r)
 -- r is left of the form after n bytes, and these bytes are to come
 abbrev pub judgeFrom : Re → ℕ → List ℕ → Verdict
 judgeFrom r n [] = cond (nullable r) Fits (Stops n)
-judgeFrom r n (c ∷ cs) = cond (alive (deriv c r)) (judgeFrom (deriv c r) (suc n) cs) (Stops n)
+judgeFrom r n (c ∷ cs) = let onwards = judgeFrom (deriv c r) (suc n) cs in cond (alive (deriv c r)) onwards (Stops n)
 
 abbrev pub judge : Re → List ℕ → Verdict
 judge r s = judgeFrom r 0 s

@@ -22,6 +22,15 @@ pub both-right : (a b : Bool) → T (both a b) → T b
 both-right true b t = t
 both-right false b t = absurd t
 
+-- a test that is asked only where another passes
+abbrev pub implies : Bool → Bool → Bool
+implies true b = b
+implies false b = true
+
+pub implied : (a b : Bool) → T (implies a b) → T a → T b
+implied true b t u = t
+implied false b t u = absurd u
+
 -- the test f passes at each number below n
 abbrev pub below : ℕ → (ℕ → Bool) → Bool
 below zero f = true

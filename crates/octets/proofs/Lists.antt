@@ -1,10 +1,10 @@
 -- Laws of lists of bytes that the kit's library lacks.
-use mathlib.Core.Path.{_≡_, refl, ap, _∙_}
+use mathlib.Core.Path.{_≡_, refl, sym, ap, _∙_}
 use mathlib.Core.List.{List, [], _∷_, _++_}
 use Prim.Native.Nat.{ℕ, zero, suc, _+_, _-_, _≤_, _<_}
 use native.Mathlib.Omega.{arith}
-use lib.ListN.{length, getD, List·getD-append}
-use lib.Seq.{getD-append-add}
+use lib.ListN.{length, take, drop, getD, length-append, length-drop, List·getD-append}
+use lib.Seq.{sets, sets-eq, take-at, drop-append-add, drop-drop, getD-append-add}
 use Rattle.octets.specs.Bytes.{Bytes}
 
 -- a slice's elements are bytes
@@ -35,3 +35,13 @@ pub at-right : (xs ys : List ℕ) (j : ℕ) → length xs ≤ j → getD (xs ++ 
 at-right xs ys j h =
     let e : j ≡ length xs + (j - length xs) = omega arith in
     ap (λ (n : ℕ). getD (xs ++ ys) n 0) e ∙ getD-append-add xs ys (j - length xs) 0
+
+-- a text put at the front of a list, with the rest kept, and more stored right behind it
+pub front-sets : (text vs old o : List ℕ) (at : ℕ) → at ≡ length text → o ≡ text ++ drop at old → at + length vs ≤ length old →
+    sets o at vs ≡ (text ++ vs) ++ drop (at + length vs) old
+front-sets text vs old o at l e h =
+    let n = length vs in
+    let g : at + n ≤ length o = rw (e, length-append, length-drop) (omega (arith, l)) in
+    sets-eq vs o at g
+    ∙ ap (λ (z : List ℕ). z ++ vs ++ drop (at + n) o) (ap (take at) e ∙ take-at text (drop at old) at (sym l))
+    ∙ ap (λ (z : List ℕ). text ++ vs ++ z) (ap (drop (at + n)) e ∙ ap (λ (k : ℕ). drop (k + n) (text ++ drop at old)) l ∙ drop-append-add text (drop at old) n ∙ drop-drop n at old)

@@ -27,10 +27,11 @@ step-requires c κs = search needs
 returns : tie.Need-returns Inv-loop μ-loop
 returns c =
     let a = c .before .before .before .before .before .before .before .args in
-    let l = c .before .before .before .before .loop in
-    (stop-at counted (a .class .now) (a .next .now) (a .s .now) (l .i) (l .i) (c .before .step .result) _ (l .inv .1) (search needs) (c .before .step .ensures)
-    (c .if1 .taken),
-    bytes (a .s .now) (λ (k : ℕ). c .before .before .shared-slice-known3 .given k .fits))
+    let l = c .before .before .before .before .loop in (
+      stop-at counted (a .class .now) (a .next .now) (a .s .now) (l .i) (l .i) (c .before .step .result) _ (l .inv .1) (search needs) (c .before .step .ensures)
+          (c .if1 .taken),
+      bytes (a .s .now) (λ (k : ℕ). c .before .before .shared-slice-known3 .given k .fits),
+    )
 
 add-i : tie.Need-add-i Inv-loop μ-loop
 add-i c = search needs
@@ -41,10 +42,11 @@ loop-less c = search needs
 loop-again : tie.Need-loop-again Inv-loop μ-loop
 loop-again c =
     let a = c .before .before .before .before .before .before .before .args in
-    let l = c .before .before .before .before .loop in
-    (search needs,
-    go-on counted (a .class .now) (a .next .now) (a .s .now) (l .i) (l .i) (c .before .step .result) _ (l .inv .1) (search needs) (c .before .step .ensures)
-    (c .if1 .left))
+    let l = c .before .before .before .before .loop in (
+      search needs,
+      go-on counted (a .class .now) (a .next .now) (a .s .now) (l .i) (l .i) (c .before .step .result) _ (l .inv .1) (search needs) (c .before .step .ensures)
+          (c .if1 .left),
+    )
 
 look-requires : tie.Need-look-requires Inv-loop μ-loop
 look-requires c κs = search needs
@@ -52,18 +54,20 @@ look-requires c κs = search needs
 returns-2 : tie.Need-returns-2 Inv-loop μ-loop
 returns-2 c =
     let a = c .before .before .before .before .before .before .args in
-    let l = c .before .before .before .loop in
-    (stop-end counted (a .class .now) (a .next .now) (a .s .now) (l .i) (l .i) (c .before .look .result) _ (l .inv .1) (search needs) (search needs)
-    (c .before .look .ensures) (c .if2 .taken),
-    bytes (a .s .now) (λ (k : ℕ). c .before .before .before .before .shared-slice-known2 .given k .fits))
+    let l = c .before .before .before .loop in (
+      stop-end counted (a .class .now) (a .next .now) (a .s .now) (l .i) (l .i) (c .before .look .result) _ (l .inv .1) (search needs) (search needs)
+          (c .before .look .ensures) (c .if2 .taken),
+      bytes (a .s .now) (λ (k : ℕ). c .before .before .before .before .shared-slice-known2 .given k .fits),
+    )
 
 returns-3 : tie.Need-returns-3 Inv-loop μ-loop
 returns-3 c =
     let a = c .before .before .before .before .before .before .args in
-    let l = c .before .before .before .loop in
-    (fit-end counted (a .class .now) (a .next .now) (a .s .now) (l .i) (l .i) (c .before .look .result) _ (l .inv .1) (search needs) (search needs)
-    (c .before .look .ensures) (c .if2 .left),
-    bytes (a .s .now) (λ (k : ℕ). c .before .before .before .before .shared-slice-known2 .given k .fits))
+    let l = c .before .before .before .loop in (
+      fit-end counted (a .class .now) (a .next .now) (a .s .now) (l .i) (l .i) (c .before .look .result) _ (l .inv .1) (search needs) (search needs)
+          (c .before .look .ensures) (c .if2 .left),
+      bytes (a .s .now) (λ (k : ℕ). c .before .before .before .before .shared-slice-known2 .given k .fits),
+    )
 
 pub run-straight-spec : {M : Type 1} → statement M
 run-straight-spec =

@@ -1,0 +1,53 @@
+-- What reader and writer answer, by their tests.
+use mathlib.Core.Path.{_≡_, refl, sym, ap, _∙_}
+use mathlib.Core.Bool.{Bool, true, false, cond}
+use mathlib.Core.List.{List}
+use Prim.Native.Nat.{ℕ, _≤_, _<_}
+use native.Mathlib.Omega.{arith}
+use lib.Dec.{ltb, eqb}
+use lib.ListN.{length, replicate}
+use borrow.Author.Tests.{lt-ltb, le-ltb, eqb-true}
+use Rattle.form.specs.Regex.{judge}
+use Rattle.form.specs.Listings.{idForm}
+use Rattle.form.specs.declared.Verdict.{Verdict}
+use Rattle.form.specs.declared.Verdict.the-variants.{Fits, Stops}
+use Rattle.form.specs.declared.Written.{Written}
+use Rattle.form.specs.declared.Written.the-variants.{Length, NotInForm, NoRoom}
+use Rattle.uuid.specs.Id.{answer, idOf, readId, textBefore, idText, inForm, writeId}
+use Rattle.uuid.specs.declared.IdRead.{IdRead}
+use Rattle.uuid.proofs.Spelled.{whole}
+
+module _ (s : List ℕ) (v : Verdict) (e : v ≡ judge idForm s) where
+  answered : answer v (idOf s) ≡ readId s
+  unfolding readId
+  answered = ap (λ (w : Verdict). answer w (idOf s)) e
+
+  pub read-fits : (b : List ℕ) → v ≡ Fits → b ≡ idOf s → _≡_ {A = IdRead} (record { verdict = v; id = b }) (readId s)
+  read-fits b f g = (λ i. record { verdict = f i; id = g i }) ∙ ap (λ (w : Verdict). answer w (idOf s)) (sym f) ∙ answered
+
+  pub read-stops : (n : ℕ) → v ≡ Stops n → _≡_ {A = IdRead} (record { verdict = v; id = replicate 16 0 }) (readId s)
+  read-stops n f = (λ i. record { verdict = f i; id = replicate 16 0 }) ∙ ap (λ (w : Verdict). answer w (idOf s)) (sym f) ∙ answered
+
+pub text-long : (b : List ℕ) → length (idText b) ≡ 36
+unfolding idText
+text-long b = whole b
+
+module _ (b : List ℕ) (n : ℕ) where
+  pub no-room : inForm b ≡ true → n < 36 → NoRoom ≡ writeId b n
+  unfolding writeId
+  no-room e h = simp (e, text-long b, lt-ltb n 36 h)
+
+  pub written : inForm b ≡ true → 36 ≤ n → Length 36 ≡ writeId b n
+  unfolding writeId
+  written e h = simp (e, text-long b, le-ltb n 36 h)
+
+  pub not-in-form : inForm b ≡ false → NotInForm ≡ writeId b n
+  unfolding writeId
+  not-in-form e = simp e
+
+only-if : (t r : Bool) → cond t r false ≡ true → (t ≡ true) × (r ≡ true)
+only-if true r e = (refl, e)
+only-if false r e = absurd (let z : _≡_ {A = ℕ} 0 1 = cc in omega arith)
+
+pub in-form-long : (b : List ℕ) → inForm b ≡ true → length b ≡ 16
+in-form-long b e = eqb-true (length b) 16 (only-if (eqb (length b) 16) _ e .0)

@@ -1,0 +1,5 @@
+pub mod Hex
+pub mod Letters
+pub mod Spelled
+pub mod Answers
+pub mod Theorems
