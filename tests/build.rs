@@ -7,7 +7,11 @@ fn main() {
     println!("cargo:rerun-if-env-changed=PROBE_LIB_DIR");
     let beside = Path::new(&env::var("CARGO_MANIFEST_DIR").unwrap()).join("../target/staticlib");
     let folder = env::var("PROBE_LIB_DIR").map_or(beside, PathBuf::from);
-    println!("cargo:rerun-if-changed={}", folder.join("libprobe.a").display());
+    let library = folder.join("libprobe.a");
+    println!("cargo:rerun-if-changed={}", library.display());
+    if !library.exists() {
+        println!("cargo:warning=no libprobe.a in {}: make it by 'rt staticlib probe'", folder.display());
+    }
     println!("cargo:rustc-link-search=native={}", folder.display());
     println!("cargo:rustc-link-lib=static=probe");
 }

@@ -131,17 +131,13 @@ def table_of(machine, classes):
     return rows
 
 
-def lines(numbers, between, end):
-    cut = [numbers[i:i + WIDTH] for i in range(0, len(numbers), WIDTH)]
-    return "\n".join("    " + between.join(map(str, part)) + end for part in cut)
-
-
 def source(classes, tables):
-    out = ["// Written by tools/forms.py from the published listings; compared with them in proofs/Judged.antt.", ""]
+    out = ["// Written by tools/forms.py from the published listings; compared with them where each form is proved, as in proofs/datetime_form."]
     for name, numbers, note in [("CLASS", classes, "The class of each byte.")] + [
             (name.upper(), table, "A row for each state: what the end of the text, and each class of bytes, leads to.") for name, table in tables.items()]:
-        out += ["// " + note, f"pub const {name}: [u8; {len(numbers)}] = [", lines(numbers, ", ", ","), "];", ""]
-    return "\n".join(out[:-1]) + "\n"
+        rows = ["".join(f"\\x{n:02x}" for n in numbers[i:i + WIDTH]) for i in range(0, len(numbers), WIDTH)]
+        out += ["", "// " + note, f'pub const {name}: [u8; {len(numbers)}] = *b"\\'] + [f"    {row}\\" for row in rows] + ['    ";']
+    return "\n".join(out) + "\n"
 
 
 def proofs(machines):

@@ -1,12 +1,26 @@
 //! The calls of the proved library, as safe functions on slices. The only module with `unsafe`.
 
-/// What a reader answers for a text in form; every other answer is an offset.
-pub const ALL: u64 = u64::MAX;
+use std::fmt;
+
+/// What a reader answers: `ALL` for a text in form, else an offset.
+#[derive(Clone, Copy, PartialEq, Eq)]
+pub struct Verdict(pub u64);
+
+pub const ALL: Verdict = Verdict(u64::MAX);
+
+impl fmt::Debug for Verdict {
+    fn fmt(&self, f: &mut fmt::Formatter) -> fmt::Result {
+        match *self {
+            ALL => write!(f, "in form"),
+            Verdict(offset) => write!(f, "stops at {offset}"),
+        }
+    }
+}
 
 /// A reader's answer with the numbers it was lent, as they stand after the call.
 #[derive(Clone, Copy, Debug, PartialEq, Eq)]
 pub struct Seen<T> {
-    pub verdict: u64,
+    pub verdict: Verdict,
     pub value: T,
 }
 
@@ -31,7 +45,7 @@ mod c {
 /// `before` is what the lent numbers hold at the call.
 pub fn read_amount(text: &[u8], before: (u64, u16)) -> Seen<(u64, u16)> {
     let (mut units, mut remainder) = before;
-    let verdict = unsafe { c::probe_read_amount(text.as_ptr(), text.len(), &mut units, &mut remainder) };
+    let verdict = Verdict(unsafe { c::probe_read_amount(text.as_ptr(), text.len(), &mut units, &mut remainder) });
     Seen { verdict, value: (units, remainder) }
 }
 
@@ -39,8 +53,8 @@ pub fn write_amount(units: u64, remainder: u16, out: &mut [u8]) -> u64 {
     unsafe { c::probe_write_amount(units, remainder, out.as_mut_ptr(), out.len()) }
 }
 
-pub fn read_id(text: &[u8], out: &mut [u8]) -> u64 {
-    unsafe { c::probe_read_id(text.as_ptr(), text.len(), out.as_mut_ptr(), out.len()) }
+pub fn read_id(text: &[u8], out: &mut [u8]) -> Verdict {
+    Verdict(unsafe { c::probe_read_id(text.as_ptr(), text.len(), out.as_mut_ptr(), out.len()) })
 }
 
 pub fn write_id(id: &[u8], out: &mut [u8]) -> u64 {
@@ -50,7 +64,7 @@ pub fn write_id(id: &[u8], out: &mut [u8]) -> u64 {
 /// `before` is what the lent number holds at the call.
 pub fn read_datetime(text: &[u8], before: i64) -> Seen<i64> {
     let mut value = before;
-    let verdict = unsafe { c::probe_read_datetime(text.as_ptr(), text.len(), &mut value) };
+    let verdict = Verdict(unsafe { c::probe_read_datetime(text.as_ptr(), text.len(), &mut value) });
     Seen { verdict, value }
 }
 
@@ -58,30 +72,30 @@ pub fn write_datetime(ms: i64, out: &mut [u8]) -> u64 {
     unsafe { c::probe_write_datetime(ms, out.as_mut_ptr(), out.len()) }
 }
 
-pub fn read_condition(text: &[u8], out: &mut [u8]) -> u64 {
-    unsafe { c::probe_read_condition(text.as_ptr(), text.len(), out.as_mut_ptr(), out.len()) }
+pub fn read_condition(text: &[u8], out: &mut [u8]) -> Verdict {
+    Verdict(unsafe { c::probe_read_condition(text.as_ptr(), text.len(), out.as_mut_ptr(), out.len()) })
 }
 
 pub fn write_condition(bytes: &[u8], out: &mut [u8]) -> u64 {
     unsafe { c::probe_write_condition(bytes.as_ptr(), bytes.len(), out.as_mut_ptr(), out.len()) }
 }
 
-pub fn read_name(text: &[u8]) -> u64 {
-    unsafe { c::probe_read_name(text.as_ptr(), text.len()) }
+pub fn read_name(text: &[u8]) -> Verdict {
+    Verdict(unsafe { c::probe_read_name(text.as_ptr(), text.len()) })
 }
 
-pub fn read_currency(text: &[u8]) -> u64 {
-    unsafe { c::probe_read_currency(text.as_ptr(), text.len()) }
+pub fn read_currency(text: &[u8]) -> Verdict {
+    Verdict(unsafe { c::probe_read_currency(text.as_ptr(), text.len()) })
 }
 
-pub fn read_packet(text: &[u8]) -> u64 {
-    unsafe { c::probe_read_packet(text.as_ptr(), text.len()) }
+pub fn read_packet(text: &[u8]) -> Verdict {
+    Verdict(unsafe { c::probe_read_packet(text.as_ptr(), text.len()) })
 }
 
 /// `before` is what the lent number holds at the call.
 pub fn read_code(text: &[u8], before: u16) -> Seen<u16> {
     let mut value = before;
-    let verdict = unsafe { c::probe_read_code(text.as_ptr(), text.len(), &mut value) };
+    let verdict = Verdict(unsafe { c::probe_read_code(text.as_ptr(), text.len(), &mut value) });
     Seen { verdict, value }
 }
 

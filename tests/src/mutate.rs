@@ -38,16 +38,8 @@ fn swap_with_next(text: &mut [u8], at: usize) {
 pub fn each_byte_at_each_place(text: &[u8]) -> Vec<Vec<u8>> {
     let mut all: Vec<Vec<u8>> = (0..=text.len()).map(|end| text[..end].to_vec()).collect();
     for at in 0..=text.len() {
-        for byte in 0..=255 {
-            let mut other = text.to_vec();
-            other.truncate(at.max(text.len()));
-            if at < text.len() {
-                other[at] = byte;
-            } else {
-                other.push(byte);
-            }
-            all.push(other);
-        }
+        let after = &text[text.len().min(at + 1)..];
+        all.extend((0..=255).map(|byte| [&text[..at], &[byte], after].concat()));
     }
     all
 }

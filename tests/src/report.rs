@@ -19,6 +19,15 @@ impl Group {
         }
         Err(format!("{}: {:?}, expected {:?}", about(), ours, expected))
     }
+
+    /// The same of every byte of two buffers of one length; a difference is said by its place.
+    pub fn same_bytes(&mut self, ours: &[u8], expected: &[u8], about: impl Fn() -> String) -> Result<(), Difference> {
+        self.compared += 1;
+        match ours.iter().zip(expected).position(|(one, other)| one != other) {
+            None => Ok(()),
+            Some(at) => Err(format!("{}: byte {} is {:#04x}, expected {:#04x}", about(), at, ours[at], expected[at])),
+        }
+    }
 }
 
 #[derive(Default)]

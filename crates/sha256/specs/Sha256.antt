@@ -1,5 +1,5 @@
--- SHA-256, written from FIPS 180-4 (August 2015) section by section, to be read beside it. Bytes and 32-bit words are numbers, a message is
--- a list of bytes. The standard takes messages of bits below 2 ^ 64 in number; these are messages of whole bytes, and of any length: the
+-- SHA-256, written from FIPS 180-4 (August 2015) section by section, to be read beside it. Bytes and 32-bit words are numbers, a message
+-- is a list of bytes. The standard takes messages of fewer than 2 ^ 64 bits; these are messages of whole bytes, and of any length: the
 -- count of bits is written modulo 2 ^ 64.
 use Prim.Native.Nat.{ℕ, zero, suc, _+_, _-_, _*_, _/_, _%_, _^_}
 use mathlib.Core.Bool.{cond}
@@ -10,7 +10,6 @@ use lib.ListN.{length, getD, take, drop, replicate}
 use Rattle.octets.specs.Build.{build}
 
 infixl 6 _⊞_
-
 -- 3.1: an integer as n bytes, the most significant first. Of a larger one its n low bytes
 unfoldable pub bigEndian : ℕ → ℕ → List ℕ
 bigEndian zero x = []
@@ -30,10 +29,10 @@ abbrev pub ROTR : ℕ → ℕ → ℕ
 ROTR n x = bitOr (x / 2 ^ n) (x * 2 ^ (32 - n) % 2 ^ 32)
 
 -- 4.1.2, (4.2) to (4.7): the six functions
-unfoldable pub Ch : ℕ → ℕ → ℕ → ℕ
+abbrev pub Ch : ℕ → ℕ → ℕ → ℕ
 Ch x y z = bitXor (bitAnd x y) (bitAnd (complement x) z)
 
-unfoldable pub Maj : ℕ → ℕ → ℕ → ℕ
+abbrev pub Maj : ℕ → ℕ → ℕ → ℕ
 Maj x y z = bitXor (bitXor (bitAnd x y) (bitAnd x z)) (bitAnd y z)
 
 unfoldable pub Σ0 : ℕ → ℕ
@@ -60,8 +59,8 @@ K =
     0x19a4c116 ∷ 0x1e376c08 ∷ 0x2748774c ∷ 0x34b0bcb5 ∷ 0x391c0cb3 ∷ 0x4ed8aa4a ∷ 0x5b9cca4f ∷ 0x682e6ff3 ∷
     0x748f82ee ∷ 0x78a5636f ∷ 0x84c87814 ∷ 0x8cc70208 ∷ 0x90befffa ∷ 0xa4506ceb ∷ 0xbef9a3f7 ∷ 0xc67178f2 ∷ []
 
--- 5.1.1: the message, the bit 1 (with seven zero bits the byte 0x80), then zeros, as few as bring the length to 448 modulo 512 bits (56 modulo
--- 64 bytes), then the length of the message in bits as 64 bits
+-- 5.1.1: the message, the bit 1 (with seven zero bits the byte 0x80), then zeros, as few as bring the length to 448 modulo 512 bits
+-- (56 modulo 64 bytes), then the length of the message in bits as 64 bits
 abbrev pub zeroCount : ℕ → ℕ
 zeroCount n = (119 - n % 64) % 64
 
@@ -72,11 +71,11 @@ pad m = m ++ ((0x80 ∷ replicate (zeroCount (length m)) 0) ++ bigEndian 8 (8 * 
 abbrev pub block : ℕ → List ℕ → List ℕ
 block i p = take 64 (drop (64 * i) p)
 
-unfoldable pub word : ℕ → List ℕ → ℕ
+abbrev pub word : ℕ → List ℕ → ℕ
 word t m = getD m (4 * t) 0 * 2 ^ 24 + getD m (4 * t + 1) 0 * 2 ^ 16 + getD m (4 * t + 2) 0 * 2 ^ 8 + getD m (4 * t + 3) 0
 
 -- 5.3.3: the initial hash value
-unfoldable pub H0 : List ℕ
+abbrev pub H0 : List ℕ
 H0 = 0x6a09e667 ∷ 0xbb67ae85 ∷ 0x3c6ef372 ∷ 0xa54ff53a ∷ 0x510e527f ∷ 0x9b05688c ∷ 0x1f83d9ab ∷ 0x5be0cd19 ∷ []
 
 -- 6.2.2, step 1: word t of the schedule from 16 on, of the words w before it, and the first t words of the schedule of the block m
@@ -94,18 +93,13 @@ T1 e f g h k w = h ⊞ Σ1 e ⊞ Ch e f g ⊞ k ⊞ w
 unfoldable pub T2 : ℕ → ℕ → ℕ → ℕ
 T2 a b c = Σ0 a ⊞ Maj a b c
 
--- 6.2.2, step 3: one round on the working variables a to h, which are the elements 0 to 7 of s
-unfoldable pub round : List ℕ → ℕ → ℕ → List ℕ
+-- 6.2.2, step 3: one round on the working variables a to h, which s has as its elements 0 to 7
+unfoldable pub step : ℕ → ℕ → ℕ → ℕ → ℕ → ℕ → ℕ → ℕ → ℕ → ℕ → List ℕ
+step a b c d e f g h k w = (T1 e f g h k w ⊞ T2 a b c) ∷ a ∷ b ∷ c ∷ (d ⊞ T1 e f g h k w) ∷ e ∷ f ∷ g ∷ []
+
+abbrev pub round : List ℕ → ℕ → ℕ → List ℕ
 round s k w =
-    let a = getD s 0 0 in
-    let b = getD s 1 0 in
-    let c = getD s 2 0 in
-    let d = getD s 3 0 in
-    let e = getD s 4 0 in
-    let f = getD s 5 0 in
-    let g = getD s 6 0 in
-    let h = getD s 7 0 in
-    (T1 e f g h k w ⊞ T2 a b c) ∷ a ∷ b ∷ c ∷ (d ⊞ T1 e f g h k w) ∷ e ∷ f ∷ g ∷ []
+    step (getD s 0 0) (getD s 1 0) (getD s 2 0) (getD s 3 0) (getD s 4 0) (getD s 5 0) (getD s 6 0) (getD s 7 0) k w
 
 -- n rounds, from round t on, with the schedule w
 unfoldable pub rounds : ℕ → ℕ → List ℕ → List ℕ → List ℕ

@@ -1,8 +1,11 @@
 -- Hexadecimal digits: the code's way to their value, and that value and digit are inverse. Each by one computed test.
 use mathlib.Core.Path.{_≡_, refl, sym, ap, _∙_}
-use mathlib.Core.Bool.{Bool, true, false, cond}
+use mathlib.Core.Bool.{Bool, true, false, cond, _&&_, _||_}
+use mathlib.Core.Logic.{_⊎_, inl, inr, ⊎-elim}
 use Prim.Native.Nat.{ℕ, _+_, _*_, _/_, _%_, _<_}
-use lib.Dec.{T, ltb, eqb, eqb→eq, ltb→lt}
+use native.Mathlib.Omega.{arith}
+use lib.Dec.{T, ltb, leb, eqb, eqb→eq, ltb→lt}
+use borrow.Author.Tests.{leb-true}
 use Rattle.octets.proofs.Computed.{both, both-left, both-right, implies, implied, below, below-at}
 use Rattle.uuid.specs.Id.{isHex, hexValue, hexChar}
 
@@ -48,3 +51,16 @@ module _ (n : ℕ) (h : n < 16) where
 
   pub char-byte : hexChar n < 256
   char-byte = ltb→lt (hexChar n) 256 (both-right (eqb (hexValue (hexChar n)) n) (ltb (hexChar n) 256) more)
+
+-- a digit is a byte
+pub hex-byte : (c : ℕ) → T (isHex c) → c < 256
+hex-byte c t = ⊎-elim (λ a. small (leb 48 c) (leb c 57) 57 a refl refl (omega arith)) (λ a. small (leb 97 c) (leb c 102) 102 a refl refl (omega arith)) (either (leb 48 c && leb c 57) (leb 97 c && leb c 102) t)
+  where
+    either : (a b : Bool) → T (a || b) → T a ⊎ T b
+    either true b u = inl tt
+    either false b u = inr u
+    small : (a b : Bool) (m : ℕ) → T (a && b) → {x : Bool} → a ≡ x → leb c m ≡ b → m < 256 → c < 256
+    small true true m u p q h = omega (arith, leb-true c m q)
+    small true false m u p q h = absurd u
+    small false true m u p q h = absurd u
+    small false false m u p q h = absurd u

@@ -1,8 +1,8 @@
 -- What a text of the form has at each place.
-use mathlib.Core.Path.{_≡_, ap, subst, subst⁻¹, _∙_}
+use mathlib.Core.Path.{_≡_, subst}
 use mathlib.Core.Bool.{Bool, true, false, cond, _&&_, _||_}
 use mathlib.Core.List.{List, []}
-use Prim.Native.Nat.{ℕ, _+_, _*_, _<_}
+use Prim.Native.Nat.{ℕ, _+_, _<_}
 use Prim.Native.Char.{code}
 use native.Mathlib.Nat.{zero-add}
 use native.Mathlib.Decide.{ℕ-discrete}
@@ -16,10 +16,8 @@ use Rattle.form.specs.declared.Verdict.{Verdict}
 use Rattle.form.specs.declared.Verdict.the-variants.{Fits}
 use Rattle.form.proofs.Same.{same}
 use Rattle.form.proofs.Words.{idWords}
-use Rattle.form.proofs.Places.{Placed, places, matched-bytes}
-use Rattle.form.proofs.Meaning.{fits}
-use Rattle.octets.proofs.Lists.{byte-at}
-use Rattle.uuid.specs.Id.{placeOf, isHex, hexValue, byteAt}
+use Rattle.form.proofs.Places.{Placed, places}
+use Rattle.uuid.specs.Id.{placeOf, isHex}
 
 -- dashes at 8, 13, 18 and 23, the version at 14, the variant at 19, and digits elsewhere
 abbrev pub letterRule : ℕ → ℕ → Bool
@@ -61,29 +59,9 @@ high-tested = tt
 low-tested : T (follows 16 (λ k. placeOf k + 1) (λ k c. isHex c))
 low-tested = tt
 
-places-tested : T (below 16 (λ k. ltb (placeOf k) 35))
-places-tested = tt
-
-place-small : (k : ℕ) → k < 16 → placeOf k < 35
-place-small k h = ltb→lt (placeOf k) 35 (below-at 16 (λ j. ltb (placeOf j) 35) places-tested k h)
-
 module _ (s : List ℕ) (e : judge idForm s ≡ Fits) (k : ℕ) (h : k < 16) where
   pub high-hex : T (isHex (getD s (placeOf k) 0))
   high-hex = at-place s e 16 placeOf (λ j c. isHex c) high-tested k h
 
   pub low-hex : T (isHex (getD s (placeOf k + 1) 0))
   low-hex = at-place s e 16 (λ j. placeOf j + 1) (λ j c. isHex c) low-tested k h
-
--- what the loop over the bytes needs at the place p of byte k
-pub digit-pair : (s : List ℕ) → judge idForm s ≡ Fits → (k : ℕ) → k < 16 → (p : ℕ) → p ≡ placeOf k →
-    (p < 35) × T (isHex (getD s p 0)) × T (isHex (getD s (p + 1) 0))
-digit-pair s e k h p q =
-    subst⁻¹ (λ (x : ℕ). (x < 35) × T (isHex (getD s x 0)) × T (isHex (getD s (x + 1) 0))) q (place-small k h, high-hex s e k h, low-hex s e k h)
-
-pub pair-is : (s : List ℕ) (k p v : ℕ) → p ≡ placeOf k → v ≡ hexValue (getD s p 0) * 16 + hexValue (getD s (p + 1) 0) → v ≡ byteAt s k
-unfolding byteAt
-pair-is s k p v q e = e ∙ ap (λ (x : ℕ). hexValue (getD s x 0) * 16 + hexValue (getD s (x + 1) 0)) q
-
--- each character is a byte
-pub letter-byte : (s : List ℕ) → judge idForm s ≡ Fits → (i : ℕ) → getD s i 0 < 256
-letter-byte s e i = byte-at s (matched-bytes (fits idForm s .0 e) tt) i

@@ -1,5 +1,7 @@
 pub mod Hex
 pub mod Letters
+pub mod Grouped
+pub mod WellMade
 pub mod Spelled
-pub mod Answers
 pub mod Theorems
+pub mod Answers

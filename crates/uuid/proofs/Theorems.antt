@@ -31,17 +31,14 @@ use Rattle.form.proofs.Same.{same}
 use Rattle.form.proofs.Steps.{left, leads, Ends, on, is-true}
 use Rattle.uuid.specs.declared.IdRead.{IdRead}
 use Rattle.uuid.specs.Id.{dashBefore, placeOf, isHex, hexValue, hexChar, byteAt, idOf, answer, readId, pairText, byteText, textBefore, idText, inForm, writeId}
-use Rattle.uuid.proofs.Hex.{char-value, value-small, value-char}
-use Rattle.uuid.proofs.Letters.{letters, follows, at-place, high-hex, low-hex, letter-byte}
+use Rattle.uuid.proofs.Hex.{char-value, value-small, value-char, hex-byte}
+use Rattle.uuid.proofs.WellMade.{sofar, versionRule, variantRule, WellMade, from-listing}
 use Rattle.uuid.proofs.Spelled.{step}
 
 abbrev Reads : List ℕ → List ℕ → Type 0
 Reads s b = _≡_ {A = IdRead} (readId s) (record { verdict = Fits; id = b })
 
 -- the written text is of the form: what is left of it after the text of each byte
-abbrev sofar : ℕ → ℕ
-sofar k = length (textBefore k [])
-
 abbrev leftAt : ℕ → Re
 leftAt k = left idForm (take (sofar k) (ascii "00000000-0000-1000-8000-000000000000"))
 
@@ -204,14 +201,14 @@ unfolding readId
 fits-reads s e = ap (λ (v : Verdict). answer v (idOf s)) e
 
 -- what a text of the form says of the bytes
-module _ (s : List ℕ) (e : judge idForm s ≡ Fits) where
+module _ (s : List ℕ) (w : WellMade s) where
   halves : (k : ℕ) → k < 16 → (byteAt s k / 16 ≡ hexValue (getD s (placeOf k) 0)) × (byteAt s k % 16 ≡ hexValue (getD s (placeOf k + 1) 0)) × (byteAt s k < 256)
   unfolding byteAt
   halves k h =
       let x = hexValue (getD s (placeOf k) 0) in
       let y = hexValue (getD s (placeOf k + 1) 0) in
-      let a : x < 16 = value-small (getD s (placeOf k) 0) (letter-byte s e (placeOf k)) (high-hex s e k h) in
-      let b : y < 16 = value-small (getD s (placeOf k + 1) 0) (letter-byte s e (placeOf k + 1)) (low-hex s e k h) in
+      let a : x < 16 = value-small (getD s (placeOf k) 0) (hex-byte (getD s (placeOf k) 0) (w .high k h)) (w .high k h) in
+      let b : y < 16 = value-small (getD s (placeOf k + 1) 0) (hex-byte (getD s (placeOf k + 1) 0) (w .low k h)) (w .low k h) in
       (omega arith, omega arith, omega arith)
 
   at : (k : ℕ) → k < 16 → getD (idOf s) k 0 ≡ byteAt s k
@@ -230,44 +227,32 @@ module _ (s : List ℕ) (e : judge idForm s ≡ Fits) where
           [ yes h ↦ rw (at k h) (halves k h .2)
           | no h ↦ (let l : length (idOf s) ≤ k = omega (arith, id-long) in rw (List·getD-eq-default (idOf s) 0 l) (omega arith)) ]
 
-  -- the first digit of byte k passes a test that follows from the letter's rule
-  first-digit : (n : ℕ) → n < 16 → (q : ℕ → Bool) → T (follows 1 (λ i. placeOf n) (λ i c. q (hexValue c))) → T (q (getD (idOf s) n 0 / 16))
-  first-digit n h q t =
-      subst⁻¹ (λ (x : ℕ). T (q x)) (ap (λ (x : ℕ). x / 16) (at n h) ∙ halves n h .0)
-      (at-place s e 1 (λ i. placeOf n) (λ i c. q (hexValue c)) t 0 (omega arith))
+  first-digit : (n : ℕ) → n < 16 → getD (idOf s) n 0 / 16 ≡ hexValue (getD s (placeOf n) 0)
+  first-digit n h = ap (λ (x : ℕ). x / 16) (at n h) ∙ halves n h .0
 
   pub id-in-form : inForm (idOf s) ≡ true
   id-in-form =
-      let x = getD (idOf s) 6 0 / 16 in
-      let y = getD (idOf s) 8 0 / 16 in
-      rw (eq-eqb (length (idOf s)) 16 id-long, is-true (leb 1 x) (first-digit 6 (omega arith) (leb 1) tt),
-      is-true (leb x 5) (first-digit 6 (omega arith) (λ z. leb z 5) tt), is-true (leb 8 y) (first-digit 8 (omega arith) (leb 8) tt),
-      is-true (leb y 11) (first-digit 8 (omega arith) (λ z. leb z 11) tt))
+      let v = and-parts (leb 1 (hexValue (getD s 14 0))) (leb (hexValue (getD s 14 0)) 5) (is-true (versionRule (getD s 14 0)) (w .version)) in
+      let u = and-parts (leb 8 (hexValue (getD s 19 0))) (leb (hexValue (getD s 19 0)) 11) (is-true (variantRule (getD s 19 0)) (w .variant)) in
+      rw (eq-eqb (length (idOf s)) 16 id-long, first-digit 6 (omega arith), first-digit 8 (omega arith), v .0, v .1, u .0, u .1)
 
   -- the text of byte k is what stands in the text there
-  dash-here : (k : ℕ) → k < 16 → T (implies (dashBefore k) (eqb (getD s (sofar k) 0) 45))
-  unfolding textBefore
-  dash-here k h = at-place s e 16 sofar (λ i c. implies (dashBefore i) (eqb c 45)) tt k h
-
   pair-here : (k : ℕ) → k < 16 → pairText (byteAt s k) ≡ getD s (placeOf k) 0 ∷ getD s (placeOf k + 1) 0 ∷ []
   pair-here k h =
-      let w = halves k h in
-      let high : hexChar (byteAt s k / 16) ≡ getD s (placeOf k) 0 = ap hexChar (w .0) ∙ char-value (getD s (placeOf k) 0) (letter-byte s e (placeOf k)) (high-hex s e k h) in
-      let low : hexChar (byteAt s k % 16) ≡ getD s (placeOf k + 1) 0 = ap hexChar (w .1) ∙ char-value (getD s (placeOf k + 1) 0) (letter-byte s e (placeOf k + 1)) (low-hex s e k h) in
+      let v = halves k h in
+      let high : hexChar (byteAt s k / 16) ≡ getD s (placeOf k) 0 = ap hexChar (v .0) ∙ char-value (getD s (placeOf k) 0) (hex-byte (getD s (placeOf k) 0) (w .high k h)) (w .high k h) in
+      let low : hexChar (byteAt s k % 16) ≡ getD s (placeOf k + 1) 0 = ap hexChar (v .1) ∙ char-value (getD s (placeOf k + 1) 0) (hex-byte (getD s (placeOf k + 1) 0) (w .low k h)) (w .low k h) in
       λ i. high i ∷ low i ∷ []
-
-  long : length s ≡ 36
-  long = letters s e .long
 
   two-here : (n : ℕ) → n + 2 ≤ 36 → take 2 (drop n s) ≡ getD s n 0 ∷ getD s (n + 1) 0 ∷ []
   two-here n h =
-      let a : n < length s = omega (arith, long) in
-      let b : suc n < length s = omega (arith, long) in
+      let a : n < length s = omega (arith, w .long) in
+      let b : suc n < length s = omega (arith, w .long) in
       rw (drop-cons s n 0 a, drop-cons s (suc n) 0 b, add-one n)
 
   three-here : (n : ℕ) → n + 3 ≤ 36 → take 3 (drop n s) ≡ getD s n 0 ∷ getD s (n + 1) 0 ∷ getD s (n + 2) 0 ∷ []
   three-here n h =
-      let a : n < length s = omega (arith, long) in
+      let a : n < length s = omega (arith, w .long) in
       let l : suc n ≡ n + 1 = omega arith in
       let m : n + 1 + 1 ≡ n + 2 = omega arith in
       rw (drop-cons s n 0 a)
@@ -280,7 +265,7 @@ module _ (s : List ℕ) (e : judge idForm s ≡ Fits) where
 
   piece : (k : ℕ) → k < 16 → take (length (byteText k 0)) (drop (sofar k) s) ≡ byteText k (byteAt s k)
   piece k h =
-      go (dashBefore k) (sofar k) (dash-here k h) (place-is k h) (leb→le (sofar k + length (byteText k 0)) 36 (below-at 16 (λ i. leb (sofar i + length (byteText i 0)) 36) rooms k h))
+      go (dashBefore k) (sofar k) (w .dash k h) (place-is k h) (leb→le (sofar k + length (byteText k 0)) 36 (below-at 16 (λ i. leb (sofar i + length (byteText i 0)) 36) rooms k h))
     where
       go : (d : Bool) (n : ℕ) → T (implies d (eqb (getD s n 0) 45)) → placeOf k ≡ n + cond d 1 0 → n + length (cond d (45 ∷ pairText 0) (pairText 0)) ≤ 36 →
           take (length (cond d (45 ∷ pairText 0) (pairText 0))) (drop n s) ≡ cond d (45 ∷ pairText (byteAt s k)) (pairText (byteAt s k))
@@ -302,9 +287,13 @@ module _ (s : List ℕ) (e : judge idForm s ≡ Fits) where
       ∙ sym (take-add (sofar k) m s)
       ∙ ap (λ (n : ℕ). take n s) (sym (length-append (textBefore k []) (byteText k 0)))
 
-  text-is : idText (idOf s) ≡ s
+  pub text-is : idText (idOf s) ≡ s
   unfolding idText textBefore
-  text-is = text-so-far 16 (omega arith) ∙ take-all 36 s (omega (arith, long))
+  text-is = text-so-far 16 (omega arith) ∙ take-all 36 s (omega (arith, w .long))
+
+  -- so it is of the form
+  pub well-made-fits : judge idForm s ≡ Fits
+  well-made-fits = ap (judge idForm) (sym text-is) ∙ text-fits (idOf s) id-in-form id-bytes
 
 -- form: the reader gives bytes exactly if the listing matches, and they are 16 bytes with a version 1 to 5 and a variant 8 to b
 pub form : (s : List ℕ) → (((b : List ℕ) × Reads s b) ↔ Matches idForm s)
@@ -314,7 +303,7 @@ form s =
 pub range : (s b : List ℕ) → Reads s b → (inForm b ≡ true) × Bytes b
 range s b r =
     let f = reads-fits s b r in
-    subst (λ (x : List ℕ). (inForm x ≡ true) × Bytes x) (f .1) (id-in-form s (f .0), id-bytes s (f .0))
+    subst (λ (x : List ℕ). (inForm x ≡ true) × Bytes x) (f .1) (id-in-form s (from-listing s (f .0)), id-bytes s (from-listing s (f .0)))
 
 -- round: the text written of bytes in form reads back as those bytes, and matches the listing
 pub round : (b : List ℕ) → inForm b ≡ true → Bytes b → Reads (idText b) b × Matches idForm (idText b)
@@ -325,7 +314,7 @@ round b e small =
 
 -- unique: the written text is the only one that reads to its bytes
 pub unique : (s b : List ℕ) → Reads s b → s ≡ idText b
-unique s b r = let f = reads-fits s b r in sym (text-is s (f .0)) ∙ ap idText (f .1)
+unique s b r = let f = reads-fits s b r in sym (text-is s (from-listing s (f .0))) ∙ ap idText (f .1)
 
 -- refused: the writer refuses with 1 exactly the bytes that no text reads to
 pub refused : (b : List ℕ) → Bytes b → (room : ℕ) → ((writeId b room ≡ NotInForm) ↔ ((s : List ℕ) → Reads s b → ⊥))

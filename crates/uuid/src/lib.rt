@@ -2,16 +2,16 @@
 use form::Verdict;
 use form::Written;
 ghost use mathlib.Core.Path.{_≡_};
-ghost use Prim.Native.Nat.{_+_, _*_, _/_, _%_, _≤_, _<_};
-ghost use lib.ListN.{length, getD, drop};
+ghost use Prim.Native.Nat.{_+_, _≤_, _<_};
+ghost use lib.ListN.{length, drop};
 ghost use lib.Seq.{sets};
-ghost use lib.Dec.{T};
 ghost use mathlib.Core.List.{_++_};
 ghost use Rattle.form.specs.Regex.{judge};
 ghost use Rattle.form.specs.Listings.{idForm};
-ghost use Rattle.form.specs.Writing.{bufferAfter};
 ghost use Rattle.form.specs.declared.Verdict.the-variants.{Fits};
-ghost use Rattle.uuid.specs.Id.{dashBefore, placeOf, isHex, hexValue, hexChar, idOf, readId, pairText, byteText, idText, inForm, writeId};
+ghost use Rattle.form.specs.Writing.{bufferAfter};
+ghost use Rattle.uuid.specs.Quick.{digitOf, hexTable, marksOf, InRow, SoFar};
+ghost use Rattle.uuid.specs.Id.{dashBefore, hexChar, readId, pairText, byteText, idText, inForm, writeId};
 
 // A text's verdict, and the bytes of a text of the form (zeros of any other).
 pub struct IdRead {
@@ -19,79 +19,115 @@ pub struct IdRead {
     pub id: [u8; 16],
 }
 
-// A dash stands before the byte k.
-fn dash_before(k: usize) -> bool
-    ensures { λ r. ⌜ r ≡ dashBefore k ⌝ }
-{
-    (k == 4) | (k == 6) | (k == 8) | (k == 10)
+// What the quick reader made of a text: whether it is of the form, and then its bytes.
+struct Quick {
+    ok: bool,
+    id: [u8; 16],
 }
 
-// The place of byte k's first digit.
-fn place(k: usize) -> usize
-    requires { ⌜ k < 16 ⌝ }
-    ensures { λ r. ⌜ (r ≡ placeOf k) × (r < 35) ⌝ }
+// The value of each hexadecimal digit, and 255 for any other byte.
+const HEX: [u8; 256] = *b"\
+    \xff\xff\xff\xff\xff\xff\xff\xff\xff\xff\xff\xff\xff\xff\xff\xff\xff\xff\xff\xff\xff\xff\xff\xff\xff\xff\xff\xff\xff\xff\xff\xff\
+    \xff\xff\xff\xff\xff\xff\xff\xff\xff\xff\xff\xff\xff\xff\xff\xff\x00\x01\x02\x03\x04\x05\x06\x07\x08\x09\xff\xff\xff\xff\xff\xff\
+    \xff\xff\xff\xff\xff\xff\xff\xff\xff\xff\xff\xff\xff\xff\xff\xff\xff\xff\xff\xff\xff\xff\xff\xff\xff\xff\xff\xff\xff\xff\xff\xff\
+    \xff\x0a\x0b\x0c\x0d\x0e\x0f\xff\xff\xff\xff\xff\xff\xff\xff\xff\xff\xff\xff\xff\xff\xff\xff\xff\xff\xff\xff\xff\xff\xff\xff\xff\
+    \xff\xff\xff\xff\xff\xff\xff\xff\xff\xff\xff\xff\xff\xff\xff\xff\xff\xff\xff\xff\xff\xff\xff\xff\xff\xff\xff\xff\xff\xff\xff\xff\
+    \xff\xff\xff\xff\xff\xff\xff\xff\xff\xff\xff\xff\xff\xff\xff\xff\xff\xff\xff\xff\xff\xff\xff\xff\xff\xff\xff\xff\xff\xff\xff\xff\
+    \xff\xff\xff\xff\xff\xff\xff\xff\xff\xff\xff\xff\xff\xff\xff\xff\xff\xff\xff\xff\xff\xff\xff\xff\xff\xff\xff\xff\xff\xff\xff\xff\
+    \xff\xff\xff\xff\xff\xff\xff\xff\xff\xff\xff\xff\xff\xff\xff\xff\xff\xff\xff\xff\xff\xff\xff\xff\xff\xff\xff\xff\xff\xff\xff\xff\
+    ";
+
+fn digit(hex: &[u8; 256], c: u8) -> u8
+    requires { ⌜ now hex ≡ hexTable ⌝ }
+    ensures { λ r. ⌜ r ≡ digitOf c ⌝ }
 {
-    if k < 4 {
-        return 2 * k;
-    }
-    if k < 6 {
-        return 2 * k + 1;
-    }
-    if k < 8 {
-        return 2 * k + 2;
-    }
-    if k < 10 {
-        return 2 * k + 3;
-    }
-    2 * k + 4
+    let i = c as usize;
+    hex[i]
 }
 
-// The value of a hexadecimal digit: the low half of its byte, and 9 more for a letter.
-fn hex_value(c: u8) -> u8
-    requires { ⌜ T (isHex c) ⌝ }
-    ensures { λ r. ⌜ (r ≡ hexValue c) × (r < 16) ⌝ }
+// Takes n bytes from k on, whose digits stand from place at on, without a dash between them.
+fn group(hex: &[u8; 256], s: &[u8], q: Quick, k: usize, n: usize, at: usize) -> Quick
+    requires { ⌜ (now hex ≡ hexTable) × InRow (now s) k n at × SoFar (now s) k q ⌝ }
+    ensures { λ r. ⌜ SoFar (now (s .entry)) (k + n) r ⌝ }
 {
-    c % 16 + c / 64 * 9
-}
-
-// The byte whose two digits stand from place p on.
-fn pair_at(s: &[u8], p: usize) -> u8
-    requires { ⌜ (p < 35) × T (isHex (getD (now s) p 0)) × T (isHex (getD (now s) (p + 1) 0)) ⌝ }
-    ensures { λ r. ⌜ r ≡ hexValue (getD (now (s .entry)) p 0) * 16 + hexValue (getD (now (s .entry)) (p + 1) 0) ⌝ }
-{
-    let high = hex_value(octets::at(s, p));
-    let low = hex_value(octets::at(s, p + 1));
-    high * 16 + low
-}
-
-// The bytes of a text of the form.
-fn id_bytes(s: &[u8]) -> [u8; 16]
-    requires { ⌜ judge idForm (now s) ≡ Fits ⌝ }
-    ensures { λ r. ⌜ r ≡ idOf (now (s .entry)) ⌝ }
-{
-    let mut id = [0u8; 16];
-    let mut k: usize = 0;
-    while k < 16 {
-        id[k] = pair_at(s, place(k));
-        k += 1;
+    let mut ok = q.ok;
+    let mut id = q.id;
+    let mut j: usize = 0;
+    while j < n {
+        let high = digit(hex, s[at + 2 * j]);
+        let low = digit(hex, s[at + 2 * j + 1]);
+        ok = ok & (high < 16) & (low < 16);
+        id[k + j] = high % 16 * 16 + low % 16;
+        j += 1;
     }
-    id
+    Quick { ok, id }
+}
+
+// The five groups of digits.
+fn groups(s: &[u8]) -> Quick
+    requires { ⌜ length (now s) ≡ 36 ⌝ }
+    ensures { λ r. ⌜ SoFar (now (s .entry)) 16 r ⌝ }
+{
+    let hex = HEX;
+    let id = [0u8; 16];
+    let first = group(&hex, s, Quick { ok: true, id }, 0, 4, 0);
+    let second = group(&hex, s, first, 4, 2, 9);
+    let third = group(&hex, s, second, 6, 2, 14);
+    let fourth = group(&hex, s, third, 8, 2, 19);
+    group(&hex, s, fourth, 10, 6, 24)
+}
+
+// The dashes between the groups, and the version and the variant.
+fn marks(s: &[u8]) -> bool
+    requires { ⌜ length (now s) ≡ 36 ⌝ }
+    ensures { λ r. ⌜ r ≡ marksOf (now (s .entry)) ⌝ }
+{
+    let dashes = (s[8] == 45) & (s[13] == 45) & (s[18] == 45) & (s[23] == 45);
+    let version = (49 <= s[14]) & (s[14] <= 53);
+    let variant = (s[19] == 56) | (s[19] == 57) | (s[19] == 97) | (s[19] == 98);
+    dashes & version & variant
+}
+
+// A text that is not of the form: the table says where it stops.
+fn refused(s: &[u8]) -> IdRead
+    requires { ⌜ (judge idForm (now s) ≡ Fits → ⊥) ⌝ }
+    ensures { λ r. ⌜ r ≡ readId (now (s .entry)) ⌝ }
+{
+    let verdict = form::id_form(s);
+    let id = [0u8; 16];
+    IdRead { verdict, id }
+}
+
+fn read_36(s: &[u8]) -> IdRead
+    requires { ⌜ length (now s) ≡ 36 ⌝ }
+    ensures { λ r. ⌜ r ≡ readId (now (s .entry)) ⌝ }
+{
+    let quick = groups(s);
+    let ok = quick.ok;
+    let id = quick.id;
+    if ok & marks(s) {
+        return IdRead {
+            verdict: Verdict::Fits,
+            id,
+        };
+    }
+    refused(s)
 }
 
 pub fn read_id(s: &[u8]) -> IdRead
     ensures { λ r. ⌜ r ≡ readId (now (s .entry)) ⌝ }
 {
-    let verdict = form::id_form(s);
-    match verdict {
-        Verdict::Fits => {
-            let id = id_bytes(s);
-            IdRead { verdict, id }
-        }
-        Verdict::Stops(_) => {
-            let id = [0u8; 16];
-            IdRead { verdict, id }
-        }
+    if s.len() == 36 {
+        return read_36(s);
     }
+    refused(s)
+}
+
+// A dash stands before the byte k.
+fn dash_before(k: usize) -> bool
+    ensures { λ r. ⌜ r ≡ dashBefore k ⌝ }
+{
+    (k == 4) | (k == 6) | (k == 8) | (k == 10)
 }
 
 // The digit of a value below 16.

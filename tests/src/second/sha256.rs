@@ -9,7 +9,7 @@ static K: LazyLock<Vec<u32>> = LazyLock::new(|| primes(64).map(|prime| fraction(
 static INITIAL: LazyLock<Vec<u32>> = LazyLock::new(|| primes(8).map(|prime| fraction(prime, 2)).collect());
 
 fn primes(count: usize) -> impl Iterator<Item = u128> {
-    let is_prime = |number: &u128| (2..*number).all(|divisor| number % divisor != 0);
+    let is_prime = |number: &u128| (2..*number).all(|divisor| !number.is_multiple_of(divisor));
     (2..).filter(is_prime).take(count)
 }
 

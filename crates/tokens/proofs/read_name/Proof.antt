@@ -42,9 +42,10 @@ loop-less c = search needs
 
 loop-again : tie.Need-loop-again Inv-loop μ-loop
 loop-again c =
-    let l = c .before .before .before .before .before .loop in
-    (search needs,
-    next (c .before .before .before .before .before .before .args .s .now) (l .i) _ (l .inv .1) (search needs) (search needs) (search needs) (search needs))
+    let l = c .before .before .before .before .before .loop in (
+      search needs,
+      next (c .before .before .before .before .before .before .args .s .now) (l .i) _ (l .inv .1) (search needs) (search needs) (search needs) (search needs),
+    )
 
 returns-4 : tie.Need-returns-4 Inv-loop μ-loop
 returns-4 c =

@@ -1,0 +1,5 @@
+pub mod BigEndian
+pub mod Facts
+pub mod Merge
+pub mod Padding
+pub mod Turns

@@ -1,0 +1,18 @@
+-- `sha256::operations::small_sigma0` meets its contract: the definition is the code, with what `rotated` ensures.
+use Rattle.sha256.specs.Sha256.{σ0}
+use borrow.Author.Needs.{needs}
+use Rattle.sha256.proofs.operations.small_sigma0.Statement.{statement}
+use Rattle.sha256.proofs.operations.small_sigma0.Tie as tie
+
+rotated-requires : tie.Need-rotated-requires
+rotated-requires c κs = search needs
+
+rotated-requires-2 : tie.Need-rotated-requires-2
+rotated-requires-2 c κs = search needs
+
+returns : tie.Need-returns
+unfolding σ0
+returns c = cc
+
+pub small-sigma0-spec : {M : Type 1} → statement M
+small-sigma0-spec = tie.close (tie.spec rotated-requires rotated-requires-2 returns)
