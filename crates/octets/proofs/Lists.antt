@@ -3,7 +3,8 @@ use mathlib.Core.Path.{_≡_, refl, sym, ap, _∙_}
 use mathlib.Core.List.{List, [], _∷_, _++_}
 use Prim.Native.Nat.{ℕ, zero, suc, _+_, _-_, _≤_, _<_}
 use native.Mathlib.Omega.{arith}
-use lib.ListN.{length, take, drop, getD, length-append, length-drop, List·getD-append}
+use native.Mathlib.Nat.{add-zero, add-suc, suc-add}
+use lib.ListN.{length, take, drop, getD, set, length-append, length-drop, List·getD-append}
 use lib.Seq.{sets, sets-eq, take-at, drop-append-add, drop-drop, getD-append-add}
 use Rattle.octets.specs.Bytes.{Bytes}
 
@@ -45,3 +46,8 @@ front-sets text vs old o at l e h =
     sets-eq vs o at g
     ∙ ap (λ (z : List ℕ). z ++ vs ++ drop (at + n) o) (ap (take at) e ∙ take-at text (drop at old) at (sym l))
     ∙ ap (λ (z : List ℕ). text ++ vs ++ z) (ap (drop (at + n)) e ∙ ap (λ (k : ℕ). drop (k + n) (text ++ drop at old)) l ∙ drop-append-add text (drop at old) n ∙ drop-drop n at old)
+
+-- two runs of stores, one behind the other
+pub sets-append : (l : List ℕ) (i : ℕ) (xs ys : List ℕ) → sets l i (xs ++ ys) ≡ sets (sets l i xs) (i + length xs) ys
+sets-append l i [] ys = ap (λ (n : ℕ). sets l n ys) (sym (add-zero i))
+sets-append l i (x ∷ xs) ys = sets-append (set l i x) (suc i) xs ys ∙ ap (λ (n : ℕ). sets (sets (set l i x) (suc i) xs) n ys) (suc-add i (length xs) ∙ sym (add-suc i (length xs)))

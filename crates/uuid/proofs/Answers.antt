@@ -1,12 +1,12 @@
 -- What reader and writer answer, by their tests.
 use mathlib.Core.Path.{_≡_, refl, sym, ap, _∙_}
 use mathlib.Core.Bool.{Bool, true, false, cond, _&&_}
-use mathlib.Core.List.{List}
-use Prim.Native.Nat.{ℕ, _≤_, _<_}
+use mathlib.Core.List.{List, _++_}
+use Prim.Native.Nat.{ℕ, _+_, _≤_, _<_}
 use native.Mathlib.Omega.{arith}
 use lib.Dec.{ltb, eqb}
-use lib.ListN.{length, getD, replicate}
-use lib.Seq.{take-all}
+use lib.ListN.{length, drop, getD, replicate}
+use lib.Seq.{take-all, sets, sets-eq}
 use borrow.Author.Tests.{lt-ltb, le-ltb, eqb-true}
 use Rattle.form.specs.Regex.{judge}
 use Rattle.form.specs.Listings.{idForm}
@@ -56,6 +56,11 @@ module _ (s : List ℕ) (l : length s ≡ 36) (q : Quick) (g : SoFar s 16 q) (m 
 pub text-long : (b : List ℕ) → length (idText b) ≡ 36
 unfolding idText
 text-long b = whole b
+
+pub text-put : (b old : List ℕ) → 36 ≤ length old → sets old 0 (idText b) ≡ idText b ++ drop 36 old
+text-put b old h =
+    let l : 0 + length (idText b) ≡ 36 = omega (arith, text-long b) in
+    sets-eq (idText b) old 0 (omega (arith, text-long b)) ∙ ap (λ (n : ℕ). idText b ++ drop n old) l
 
 module _ (b : List ℕ) (n : ℕ) where
   pub no-room : inForm b ≡ true → n < 36 → NoRoom ≡ writeId b n

@@ -1,13 +1,14 @@
--- What the quick reader of an id goes by: the digits group by group, the marks between them.
+-- What the code of an id goes by: the digits group by group, the marks between them.
 use Prim.Native.Nat.{ℕ, zero, suc, _+_, _*_, _≤_, _<_}
 use Prim.Native.Char.{code}
 use mathlib.Core.Path.{_≡_}
-use mathlib.Core.List.{List}
+use mathlib.Core.List.{List, [], _∷_, _++_}
 use mathlib.Core.Bool.{Bool, true, cond, _&&_, _||_}
 use lib.Dec.{ltb, leb, eqb}
 use lib.ListN.{length, getD, take}
+use Rattle.octets.specs.Ascii.{ascii}
 use Rattle.octets.specs.Build.{build}
-use Rattle.uuid.specs.Id.{placeOf, isHex, hexValue, byteAt}
+use Rattle.uuid.specs.Id.{placeOf, isHex, hexValue, byteAt, pairText}
 use Rattle.uuid.specs.declared.Quick.{Quick}
 
 -- the value of a digit, and 255 for any other byte
@@ -16,6 +17,24 @@ digitOf c = cond (isHex c) (hexValue c) 255
 
 unfoldable pub hexTable : List ℕ
 hexTable = build 256 digitOf
+
+-- the sixteen digits, and the digits of n bytes from k on, side by side
+unfoldable pub hexDigits : List ℕ
+hexDigits = ascii "0123456789abcdef"
+
+unfoldable pub pairsOf : ℕ → ℕ → List ℕ → List ℕ
+pairsOf k zero b = []
+pairsOf k (suc n) b = pairsOf k n b ++ pairText (getD b (k + n) 0)
+
+abbrev pub dashedPairs : ℕ → ℕ → List ℕ → List ℕ
+dashedPairs k n b = code "-" ∷ pairsOf k n b
+
+-- the first three groups, and the last two
+abbrev pub frontText : List ℕ → List ℕ
+frontText b = (pairsOf 0 4 b ++ dashedPairs 4 2 b) ++ dashedPairs 6 2 b
+
+abbrev pub backText : List ℕ → List ℕ
+backText b = dashedPairs 8 2 b ++ dashedPairs 10 6 b
 
 -- the digits of the first k bytes are digits
 unfoldable pub digitsUpTo : ℕ → List ℕ → Bool

@@ -2,16 +2,15 @@
 use form::Verdict;
 use form::Written;
 ghost use mathlib.Core.Path.{_≡_};
-ghost use Prim.Native.Nat.{_+_, _≤_, _<_};
-ghost use lib.ListN.{length, drop};
+ghost use Prim.Native.Nat.{_+_, _*_, _≤_, _<_};
+ghost use lib.ListN.{length};
 ghost use lib.Seq.{sets};
-ghost use mathlib.Core.List.{_++_};
 ghost use Rattle.form.specs.Regex.{judge};
 ghost use Rattle.form.specs.Listings.{idForm};
 ghost use Rattle.form.specs.declared.Verdict.the-variants.{Fits};
 ghost use Rattle.form.specs.Writing.{bufferAfter};
-ghost use Rattle.uuid.specs.Quick.{digitOf, hexTable, marksOf, InRow, SoFar};
-ghost use Rattle.uuid.specs.Id.{dashBefore, hexChar, readId, pairText, byteText, idText, inForm, writeId};
+ghost use Rattle.uuid.specs.Quick.{digitOf, hexTable, hexDigits, pairsOf, dashedPairs, frontText, backText, marksOf, InRow, SoFar};
+ghost use Rattle.uuid.specs.Id.{hexChar, readId, idText, inForm, writeId};
 
 // A text's verdict, and the bytes of a text of the form (zeros of any other).
 pub struct IdRead {
@@ -123,56 +122,63 @@ pub fn read_id(s: &[u8]) -> IdRead
     refused(s)
 }
 
-// A dash stands before the byte k.
-fn dash_before(k: usize) -> bool
-    ensures { λ r. ⌜ r ≡ dashBefore k ⌝ }
-{
-    (k == 4) | (k == 6) | (k == 8) | (k == 10)
-}
-
 // The digit of a value below 16.
-fn hex_char(n: u8) -> u8
-    requires { ⌜ n < 16 ⌝ }
+fn hex_char(digits: &[u8; 16], n: u8) -> u8
+    requires { ⌜ (now digits ≡ hexDigits) × (n < 16) ⌝ }
     ensures { λ r. ⌜ r ≡ hexChar n ⌝ }
 {
-    if n < 10 {
-        return 48 + n;
-    }
-    97 + (n - 10)
+    let i = n as usize;
+    digits[i]
 }
 
-// Stores the two digits of the byte x from place at on, and gives the place past them.
-fn put_digits(out: &mut [u8], at: usize, x: u8) -> usize
-    requires { ⌜ at + 2 ≤ length (now out) ⌝ }
-    ensures { λ r. ⌜ (r ≡ at + 2) × (now (out .exit) ≡ sets (now (out .entry)) at (pairText x)) ⌝ }
+// Stores the digits of n bytes from k on, from place at on.
+fn put_pairs(digits: &[u8; 16], id: &[u8], k: usize, n: usize, out: &mut [u8], at: usize)
+    requires { ⌜ (now digits ≡ hexDigits) × (k + n ≤ length (now id)) × (at + 2 * n ≤ length (now out)) ⌝ }
+    ensures { λ _. ⌜ now (out .exit) ≡ sets (now (out .entry)) at (pairsOf k n (now (id .entry))) ⌝ }
 {
-    out[at] = hex_char(x / 16);
-    out[at + 1] = hex_char(x % 16);
-    at + 2
+    let mut j: usize = 0;
+    while j < n {
+        let x = id[k + j];
+        out[at + 2 * j] = hex_char(digits, x / 16);
+        out[at + 2 * j + 1] = hex_char(digits, x % 16);
+        j += 1;
+    }
 }
 
-// The same with the dash before the byte, where the k-th has one.
-fn put_byte(out: &mut [u8], at: usize, k: usize, x: u8) -> usize
-    requires { ⌜ at + length (byteText k x) ≤ length (now out) ⌝ }
-    ensures { λ r. ⌜ (r ≡ at + length (byteText k x)) × (now (out .exit) ≡ sets (now (out .entry)) at (byteText k x)) ⌝ }
+// The same with a dash in front, at place at.
+fn put_dashed(digits: &[u8; 16], id: &[u8], k: usize, n: usize, out: &mut [u8], at: usize)
+    requires { ⌜ (now digits ≡ hexDigits) × (k + n ≤ length (now id)) × (at + 1 + 2 * n ≤ length (now out)) ⌝ }
+    ensures { λ _. ⌜ now (out .exit) ≡ sets (now (out .entry)) at (dashedPairs k n (now (id .entry))) ⌝ }
 {
-    if dash_before(k) {
-        out[at] = 45;
-        return put_digits(out, at + 1, x);
-    }
-    put_digits(out, at, x)
+    out[at] = 45;
+    put_pairs(digits, id, k, n, out, at + 1);
+}
+
+// The first three groups, and the last two.
+fn put_front(digits: &[u8; 16], id: &[u8], out: &mut [u8])
+    requires { ⌜ (now digits ≡ hexDigits) × (length (now id) ≡ 16) × (36 ≤ length (now out)) ⌝ }
+    ensures { λ _. ⌜ now (out .exit) ≡ sets (now (out .entry)) 0 (frontText (now (id .entry))) ⌝ }
+{
+    put_pairs(digits, id, 0, 4, out, 0);
+    put_dashed(digits, id, 4, 2, out, 8);
+    put_dashed(digits, id, 6, 2, out, 13);
+}
+
+fn put_back(digits: &[u8; 16], id: &[u8], out: &mut [u8])
+    requires { ⌜ (now digits ≡ hexDigits) × (length (now id) ≡ 16) × (36 ≤ length (now out)) ⌝ }
+    ensures { λ _. ⌜ now (out .exit) ≡ sets (now (out .entry)) 18 (backText (now (id .entry))) ⌝ }
+{
+    put_dashed(digits, id, 8, 2, out, 18);
+    put_dashed(digits, id, 10, 6, out, 23);
 }
 
 fn put_text(id: &[u8], out: &mut [u8])
     requires { ⌜ (length (now id) ≡ 16) × (36 ≤ length (now out)) ⌝ }
-    ensures { λ _. ⌜ now (out .exit) ≡ idText (now (id .entry)) ++ drop 36 (now (out .entry)) ⌝ }
+    ensures { λ _. ⌜ now (out .exit) ≡ sets (now (out .entry)) 0 (idText (now (id .entry))) ⌝ }
 {
-    let mut at: usize = 0;
-    let mut k: usize = 0;
-    while k < 16 {
-        at = put_byte(out, at, k, id[k]);
-        k += 1;
-    }
+    let digits = *b"0123456789abcdef";
+    put_front(&digits, id, out);
+    put_back(&digits, id, out);
 }
 
 // Some text reads to these bytes.

@@ -1,20 +1,19 @@
--- `uuid::hex_char` meets its contract, case by case.
+-- `uuid::hex_char` meets its contract: the digits stand in their order.
+use mathlib.Core.Path.{ap, _∙_}
+use mathlib.Core.List.{List}
+use Prim.Native.Nat.{ℕ}
+use lib.ListN.{getD}
+use Rattle.uuid.proofs.Spelled.{digit-is}
 use borrow.Author.Needs.{needs}
-use borrow.Author.Tests.{lt-ltb, le-ltb}
 use Rattle.uuid.proofs.hex_char.Statement.{statement}
 use Rattle.uuid.proofs.hex_char.Tie as tie
 
-add-result : tie.Need-add-result
-add-result c = search needs
+element-copy-out-result : tie.Need-element-copy-out-result
+element-copy-out-result c = search needs
 
 returns : tie.Need-returns
-returns c = simp (lt-ltb (c .before .args .n) 10 (c .if1 .taken))
-
-add-result-2 : tie.Need-add-result-2
-add-result-2 c = search needs
-
-returns-2 : tie.Need-returns-2
-returns-2 c = simp (le-ltb (c .before .args .n) 10 (c .if1 .left))
+returns c =
+    let n = c .before .args .n in ap (λ (t : List ℕ). getD t n 0) (c .before .pre .0) ∙ digit-is n (c .before .pre .1)
 
 pub hex-char-spec : {M : Type 1} → statement M
-hex-char-spec = tie.close (tie.spec add-result returns add-result-2 returns-2)
+hex-char-spec = tie.close (tie.spec element-copy-out-result returns)

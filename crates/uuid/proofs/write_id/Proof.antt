@@ -2,7 +2,7 @@
 use mathlib.Core.Path.{refl, sym, _∙_}
 use lib.ListN.{length}
 use borrow.Author.Needs.{needs}
-use Rattle.uuid.proofs.Answers.{no-room, written, not-in-form, in-form-long}
+use Rattle.uuid.proofs.Answers.{no-room, written, not-in-form, in-form-long, text-put}
 use Rattle.uuid.proofs.write_id.Statement.{statement}
 use Rattle.uuid.proofs.write_id.Tie as tie
 
@@ -29,7 +29,7 @@ returns-2 c =
     let f = c .before .before .before .before .before .before .in-form in
     (written (a .id .now) (length (a .out .now)) (sym (f .ensures) ∙ c .before .before .before .before .before .if1 .taken)
     (c .before .before .before .before .if2 .left),
-    c .before .before .put-text .ensures)
+    c .before .before .put-text .ensures ∙ text-put (a .id .now) (a .out .now) (c .before .before .before .before .if2 .left))
 
 returns-3 : tie.Need-returns-3
 returns-3 c =
