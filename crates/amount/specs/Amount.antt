@@ -6,6 +6,7 @@ use mathlib.Core.Bool.{cond, _||_}
 use lib.Dec.{ltb, leb, eqb}
 use lib.ListN.{take}
 use Rattle.octets.specs.Ascii.{ascii}
+use Rattle.octets.specs.Decimal.{decimal}
 use Rattle.form.specs.Regex.{judge}
 use Rattle.form.specs.Listings.{amountForm}
 use Rattle.form.specs.Writing.{intoRoom}
@@ -26,14 +27,6 @@ beforePoint (c ∷ cs) = cond (eqb c (code ".")) [] (c ∷ beforePoint cs)
 abbrev pub afterPoint : List ℕ → List ℕ
 afterPoint [] = []
 afterPoint (c ∷ cs) = cond (eqb c (code ".")) cs (afterPoint cs)
-
--- the number that these digits make after the number n
-abbrev pub decimalFrom : ℕ → List ℕ → ℕ
-decimalFrom n [] = n
-decimalFrom n (c ∷ cs) = decimalFrom (n * 10 + (c - code "0")) cs
-
-abbrev pub decimal : List ℕ → ℕ
-decimal s = decimalFrom 0 s
 
 -- 01: "The value is counted in ten-thousandths": the digits before the point are units, those after it count as four
 abbrev pub tenThousandths : List ℕ → ℕ

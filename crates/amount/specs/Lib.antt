@@ -1,2 +1,3 @@
 pub mod Amount
 pub mod Rest
+pub mod Digits

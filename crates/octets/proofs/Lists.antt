@@ -3,7 +3,7 @@ use mathlib.Core.Path.{_≡_, refl, sym, ap, _∙_}
 use mathlib.Core.List.{List, [], _∷_, _++_}
 use Prim.Native.Nat.{ℕ, zero, suc, _+_, _-_, _≤_, _<_}
 use native.Mathlib.Omega.{arith}
-use native.Mathlib.Nat.{add-zero, add-suc, suc-add}
+use native.Mathlib.Nat.{add-zero, zero-add, add-suc, suc-add}
 use lib.ListN.{length, take, drop, getD, set, length-append, length-drop, List·getD-append}
 use lib.Seq.{sets, sets-eq, take-at, drop-append-add, drop-drop, getD-append-add}
 use Rattle.octets.specs.Bytes.{Bytes}
@@ -50,4 +50,10 @@ front-sets text vs old o at l e h =
 -- two runs of stores, one behind the other
 pub sets-append : (l : List ℕ) (i : ℕ) (xs ys : List ℕ) → sets l i (xs ++ ys) ≡ sets (sets l i xs) (i + length xs) ys
 sets-append l i [] ys = ap (λ (n : ℕ). sets l n ys) (sym (add-zero i))
-sets-append l i (x ∷ xs) ys = sets-append (set l i x) (suc i) xs ys ∙ ap (λ (n : ℕ). sets (sets (set l i x) (suc i) xs) n ys) (suc-add i (length xs) ∙ sym (add-suc i (length xs)))
+sets-append l i (x ∷ xs) ys =
+    sets-append (set l i x) (suc i) xs ys
+    ∙ ap (λ (n : ℕ). sets (sets (set l i x) (suc i) xs) n ys) (suc-add i (length xs) ∙ sym (add-suc i (length xs)))
+
+-- a text stored from the start of a list
+pub sets-start : (text old : List ℕ) → length text ≤ length old → sets old 0 text ≡ text ++ drop (length text) old
+sets-start text old h = let z = zero-add (length text) in sets-eq text old 0 (rw z h) ∙ ap (λ (k : ℕ). text ++ drop k old) z

@@ -6,7 +6,8 @@ use Prim.Native.Nat.{ℕ, _+_, _≤_, _<_}
 use native.Mathlib.Omega.{arith}
 use lib.Dec.{ltb, eqb}
 use lib.ListN.{length, drop, getD, replicate}
-use lib.Seq.{take-all, sets, sets-eq}
+use lib.Seq.{take-all, sets}
+use Rattle.octets.proofs.Lists.{sets-start}
 use borrow.Author.Tests.{lt-ltb, le-ltb, eqb-true}
 use Rattle.form.specs.Regex.{judge}
 use Rattle.form.specs.Listings.{idForm}
@@ -58,9 +59,7 @@ unfolding idText
 text-long b = whole b
 
 pub text-put : (b old : List ℕ) → 36 ≤ length old → sets old 0 (idText b) ≡ idText b ++ drop 36 old
-text-put b old h =
-    let l : 0 + length (idText b) ≡ 36 = omega (arith, text-long b) in
-    sets-eq (idText b) old 0 (omega (arith, text-long b)) ∙ ap (λ (n : ℕ). idText b ++ drop n old) l
+text-put b old h = sets-start (idText b) old (omega (arith, text-long b)) ∙ ap (λ (n : ℕ). idText b ++ drop n old) (text-long b)
 
 module _ (b : List ℕ) (n : ℕ) where
   pub no-room : inForm b ≡ true → n < 36 → NoRoom ≡ writeId b n
