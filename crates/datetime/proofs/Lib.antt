@@ -1,0 +1,11 @@
+pub mod Examples
+pub mod Days
+pub mod Formulas
+pub mod Parts
+pub mod Listing
+pub mod Texts
+pub mod Values
+pub mod Signed
+pub mod Quick
+pub mod Round
+pub mod Theorems
