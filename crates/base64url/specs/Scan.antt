@@ -1,0 +1,35 @@
+-- What the inner functions of the readers find in a text; no public promise cites these.
+use Prim.Native.Nat.{ℕ, zero, suc, _+_, _*_, _/_, _%_}
+use Prim.Native.Char.{code}
+use mathlib.Core.List.{List, [], _∷_}
+use mathlib.Core.Bool.{Bool, true, false, cond, _&&_}
+use lib.Dec.{ltb, eqb}
+use lib.ListN.{length, getD}
+use Rattle.base64url.specs.Letters.{valueOf, isLetter}
+use Rattle.base64url.specs.declared.Group.{Group}
+
+-- three bytes of four characters, if they are letters
+unfoldable pub groupOf : ℕ → ℕ → ℕ → ℕ → Group
+groupOf p q r s =
+    cond (isLetter p && isLetter q && isLetter r && isLetter s)
+    (record {
+      letters = true;
+      first = valueOf p * 4 + valueOf q / 16;
+      second = valueOf q % 16 * 16 + valueOf r / 4;
+      third = valueOf r % 4 * 64 + valueOf s;
+    })
+    (record { letters = false; first = 0; second = 0; third = 0 })
+
+-- how many letters a text begins with, counted to n
+unfoldable pub lettersFirst : ℕ → List ℕ → ℕ
+lettersFirst zero s = 0
+lettersFirst (suc n) [] = 0
+lettersFirst (suc n) (c ∷ cs) = cond (isLetter c) (suc (lettersFirst n cs)) 0
+
+-- a `=` stands at i, within the limit
+abbrev pub padAt : List ℕ → ℕ → Bool
+padAt s i = ltb i (length s) && (ltb i 32768 && eqb (getD s i 0) (code "="))
+
+-- the place past it
+unfoldable pub pastPad : List ℕ → ℕ → ℕ
+pastPad s i = cond (padAt s i) (i + 1) i
