@@ -4,16 +4,16 @@ use mathlib.Core.Bool.{Bool}
 use mathlib.Core.List.{List, [], _∷_, _++_, append-nil}
 use Prim.Native.Nat.{ℕ, zero, suc, _+_, _-_, _*_, _/_, _%_, _^_, _≤_, _<_}
 use native.Mathlib.Omega.{arith}
-use native.Mathlib.Nat.{add-zero, zero-add, pow-suc, pow-le-pow-right, one-le-pow}
+use native.Mathlib.Nat.{add-zero, pow-suc, pow-le-pow-right, one-le-pow}
 use native.Mathlib.Nat.{mod-lt, mod-eq-of-lt, div-eq-of-lt, mul-add-div-right, mul-add-mod-self-right, div-add-mod'}
 use native.Mathlib.Decide.{ℕ-discrete, decLt}
 use native.Mathlib.Numerals.{add-one}
 use lib.Dec.{T, eqb, eqb→eq}
 use lib.Pow.{pow-add}
-use lib.ListN.{length, set, drop, getD, length-append}
+use lib.ListN.{length, set, getD, length-append}
 use Rattle.octets.proofs.Lists.{sets-append}
 use Rattle.octets.proofs.Computed.{below, below-at}
-use lib.Seq.{sets, sets-eq, set-comm}
+use lib.Seq.{sets, set-comm}
 use borrow.Author.Tests.{lt-ltb, le-ltb, eq-eqb, ne-eqb}
 use Rattle.amount.specs.Amount.{digit, wholeText, places}
 use Rattle.amount.specs.Digits.{lastDigits, pointed, Tables}

@@ -15,7 +15,6 @@ use Rattle.octets.proofs.Computed.{both, both-left, both-right, below, below-at
 use Rattle.octets.proofs.Built.{length-build, build-at}
 use Rattle.form.specs.Regex.{Re, none, empty, alive, deriv, judgeFrom}
 use Rattle.form.specs.Matches.{Matches}
-use Rattle.form.specs.declared.Verdict.{Verdict}
 use Rattle.form.specs.declared.Verdict.the-variants.{Stops}
 use Rattle.form.proofs.Meaning.{fits, stops-fits}
 use Rattle.form.specs.Listings.{letter}

@@ -2,8 +2,8 @@
 use mathlib.Core.Path.{_≡_, refl, sym, ap, subst, _∙_}
 use mathlib.Core.Bool.{Bool, true, false}
 use mathlib.Core.List.{List, [], _∷_, _++_, map, map-append}
-use mathlib.Core.Logic.{_⊎_, ⊎-elim, _↔_}
-use Prim.Native.Nat.{ℕ, zero, suc, _+_, _-_, _*_, _/_, _%_, _<_}
+use mathlib.Core.Logic.{⊎-elim, _↔_}
+use Prim.Native.Nat.{ℕ, zero, suc, _+_, _*_, _/_, _%_, _<_}
 use native.Mathlib.Omega.{arith}
 use lib.Dec.{ltb}
 use lib.ListN.{length, getD, take, replicate, length-append, length-map}
@@ -16,7 +16,6 @@ use Rattle.form.specs.Matches.{Matches}
 use Rattle.form.specs.Writing.{number}
 use Rattle.form.specs.declared.Verdict.{Verdict}
 use Rattle.form.specs.declared.Verdict.the-variants.{Fits, Stops}
-use Rattle.form.specs.declared.Written.{Written}
 use Rattle.form.proofs.Meaning.{fits, stops-fits}
 use Rattle.form.proofs.Places.{matched-bytes}
 use Rattle.base64url.specs.Letters.{letterOf, valueOf, isLetter}
@@ -94,7 +93,8 @@ spelled s b e =
 reads : (v : List ℕ) → Values v → length v ≡ 43 → ReadsTo (map letterOf v) (bytesOf v)
 reads v h l =
     sym
-    (fitted (map letterOf v) (letters-bytes v h) (bytesOf v) (ap bytesOf (sym (letters-read v h))) (length-map v letterOf ∙ l) (letters-all v h))
+    (fitted (map letterOf v) (letters-bytes v h) (bytesOf v) (ap bytesOf (sym (letters-read v h))) (length-map v letterOf ∙ l)
+    (letters-all v h))
 
 -- 01: a text has a value exactly if the listing matches; ..
 pub form : (s : List ℕ) → (readCondition s .verdict ≡ Fits) ↔ Matches conditionForm s

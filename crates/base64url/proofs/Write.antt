@@ -4,7 +4,6 @@ use mathlib.Core.List.{List}
 use Prim.Native.Nat.{ℕ, _≤_, _<_}
 use lib.ListN.{length, length-map}
 use borrow.Author.Tests.{lt-ltb, le-ltb, eq-eqb, ne-eqb}
-use Rattle.form.specs.declared.Written.{Written}
 use Rattle.form.specs.declared.Written.the-variants.{Length, NotInForm, NoRoom}
 use Rattle.base64url.specs.Letters.{letterOf}
 use Rattle.base64url.specs.Condition.{valuesOf, conditionText, writeCondition}

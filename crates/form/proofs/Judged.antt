@@ -89,7 +89,8 @@ module _ (class next : List ℕ) (rs : List Re) (all : length class ≡ 256) (ok
       (both-left (at-end q) (every (at-byte q) 0 class) (row-at class rs rs next ok q h))
   law (c ∷ cs) b n q h =
       step-law (eqb (entry next q (getD class c 0)) 255) rs (deriv c (getD rs q none)) (entry next q (getD class c 0)) n _ cs
-      (every-at (at-byte q) class (both-right (at-end q) (every (at-byte q) 0 class) (row-at class rs rs next ok q h)) c (omega (arith, b .0)))
+      (every-at (at-byte q) class (both-right (at-end q) (every (at-byte q) 0 class) (row-at class rs rs next ok q h)) c (omega
+      (arith, b .0)))
       (law cs (b .1) (suc n) (entry next q (getD class c 0)))
 
 -- where the words after the empty one lead to the other states, the table judges as the form does
@@ -98,7 +99,8 @@ pub judges : (r : Re) (words : List (List ℕ)) (v : Verdict) (class next s : Li
 judges r words v class next s e b ok =
     let rs = map (left r) ([] ∷ words) in
     let x = eqb (length class) 256 in
-    e ∙ law class next rs (eqb→eq (length class) 256 (both-left x (rows class rs rs next) ok)) (both-right x (rows class rs rs next) ok) s b 0 0 (omega arith)
+    e ∙ law class next rs (eqb→eq (length class) 256 (both-left x (rows class rs rs next) ok)) (both-right x (rows class rs rs next) ok)
+    s b 0 0 (omega arith)
 
 -- a table of m states in which each leads to the next only: they count the bytes passed
 abbrev onlyNext : ℕ → ℕ → ℕ → Bool
@@ -122,19 +124,27 @@ pub straight : (class next : List ℕ) (m : ℕ) → T (straightly class next m)
 unfolding machine
 straight class next m ok [] b n q h = refl
 straight class next m ok (c ∷ cs) b n q h =
-    straight-step (eqb (entry next q (getD class c 0)) 255) m n q (entry next q (getD class c 0)) (machine counted class next (suc n) (q + 1) cs)
+    straight-step (eqb (entry next q (getD class c 0)) 255) m n q (entry next q (getD class c 0)) (machine counted class next (suc n)
+    (q + 1) cs)
     (λ x. machine named class next (suc n) x cs)
     (every-at (λ x k. onlyNext m q (entry next q k)) class
     (below-at m (λ y. straightRow class m y (drop (y * 32) next)) (both-right (eqb (length class) 256) _ ok) q h) c
-    (omega (arith, b .0, eqb→eq (length class) 256 (both-left (eqb (length class) 256) (below m (λ y. straightRow class m y (drop (y * 32) next))) ok))))
+    (omega (
+      arith,
+      b .0,
+      eqb→eq (length class) 256 (both-left (eqb (length class) 256) (below m (λ y. straightRow class m y (drop
+          (y * 32) next))) ok),
+    )))
     (straight class next m ok cs (b .1) (suc n) (q + 1))
 
-pub judges-straight : (r : Re) (words : List (List ℕ)) (v : Verdict) (class next s : List ℕ) → v ≡ machine counted class next 0 0 s → Bytes s →
+pub judges-straight : (r : Re) (words : List (List ℕ)) (v : Verdict) (class next s : List ℕ)
+    → v ≡ machine counted class next 0 0 s → Bytes s →
     T (both (straightly class next (length ([] ∷ words))) (goes r class next ([] ∷ words))) → v ≡ judge r s
 judges-straight r words v class next s e b ok =
     let x = straightly class next (length ([] ∷ words)) in
     let y = goes r class next ([] ∷ words) in
-    judges r words v class next s (e ∙ straight class next (length ([] ∷ words)) (both-left x y ok) s b 0 0 (omega arith)) b (both-right x y ok)
+    judges r words v class next s (e ∙ straight class next (length ([] ∷ words)) (both-left x y ok) s b 0 0 (omega arith)) b
+    (both-right x y ok)
 
 -- an entry, read at its place in the whole table
 pub entry-in : (next : List ℕ) (q k : ℕ) → q * 32 + k < length next → getD next (q * 32 + k) 0 ≡ entry next q k

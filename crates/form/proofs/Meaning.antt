@@ -3,10 +3,10 @@ use mathlib.Core.Path.{_≡_, refl, sym, ap, subst, _∙_}
 use mathlib.Core.Bool.{Bool, true, false, cond, _&&_, _||_}
 use mathlib.Core.List.{List, [], _∷_, _++_}
 use mathlib.Core.Logic.{_⊎_, inl, inr, ⊎-elim, _↔_}
-use Prim.Native.Nat.{ℕ, zero, suc, _+_, _≤_, _<_}
+use Prim.Native.Nat.{ℕ, zero, suc, _+_, _≤_}
 use native.Mathlib.Omega.{arith}
-use lib.Dec.{T, leb}
-use lib.ListN.{length, take}
+use lib.Dec.{leb}
+use lib.ListN.{take}
 use borrow.Author.Tests.{leb-true, le-leb}
 use Rattle.form.specs.Regex.{
   Re,
@@ -26,8 +26,7 @@ use Rattle.form.specs.Regex.{
   judge,
 }
 use Rattle.form.specs.Listings.{amountForm, idForm, dateTimeForm, conditionForm, packetForm, codeForm, nameForm, currencyForm}
-use Rattle.form.specs.Matches.{Matches, nothing, one, joined, left, right, stop, again, Begins, StopsInside, StopsShort}
-use Rattle.form.specs.declared.Verdict.{Verdict}
+use Rattle.form.specs.Matches.{Matches, nothing, one, joined, left, right, stop, again, StopsInside, StopsShort}
 use Rattle.form.specs.declared.Verdict.the-variants.{Fits, Stops}
 
 -- lists and tests
@@ -153,7 +152,8 @@ alive-from (seq p q) e =
     let y = alive-from q (and-second (alive p) (alive q) e) in
     (x .0 ++ y .0, joined (x .0) (y .0) refl (x .1) (y .1))
 alive-from (alt p q) e =
-    ⊎-elim (λ h. let x = alive-from p h in (x .0, left (x .1))) (λ h. let x = alive-from q h in (x .0, right (x .1))) (or-cases (alive p) (alive q) e)
+    ⊎-elim (λ h. let x = alive-from p h in (x .0, left (x .1))) (λ h. let x = alive-from q h in (x .0, right (x .1))) (or-cases
+    (alive p) (alive q) e)
 alive-from (upto n r) e = ([], stop)
 
 -- more repetitions allowed
@@ -200,7 +200,8 @@ range-from a b c false e m = none-none m refl
 abbrev From : ℕ → Re → Type 0
 From c r = (s : List ℕ) → Matches (deriv c r) s → Matches r (c ∷ s)
 
-rest-from : (c : ℕ) (p q : Re) (x : Bool) → nullable p ≡ x → From c q → (s : List ℕ) → Matches (cond x (deriv c q) none) s → Matches (seq p q) (c ∷ s)
+rest-from : (c : ℕ) (p q : Re) (x : Bool) → nullable p ≡ x → From c q → (s : List ℕ) → Matches (cond x (deriv c q) none) s → Matches
+    (seq p q) (c ∷ s)
 rest-from c p q true e g s m = joined [] (c ∷ s) refl (nullable-from p e) (g s m)
 rest-from c p q false e g s m = none-none m refl
 
@@ -247,7 +248,8 @@ fits-from r n [] e = go (nullable r) refl e
     go false f h = stops-fits h
 fits-from r n (c ∷ s) e = go (alive (deriv c r)) e (fits-from (deriv c r) (suc n) s)
   where
-    go : (x : Bool) → cond x (judgeFrom (deriv c r) (suc n) s) (Stops n) ≡ Fits → (judgeFrom (deriv c r) (suc n) s ≡ Fits → Matches (deriv c r) s) →
+    go : (x : Bool) → cond x (judgeFrom (deriv c r) (suc n) s) (Stops n) ≡ Fits → (judgeFrom (deriv c r) (suc n) s ≡ Fits → Matches
+        (deriv c r) s) →
         Matches r (c ∷ s)
     go true h k = deriv-from c r s (k h)
     go false h k = stops-fits h

@@ -1,12 +1,12 @@
 -- Forms in which the state counts the bytes passed (UUID, abort code, currency): what a text of the form has at each place.
 use mathlib.Core.Path.{_≡_, refl, sym, ap, subst, _∙_}
 use mathlib.Core.Bool.{Bool, true, false, cond, not}
-use mathlib.Core.List.{List, [], _∷_, _++_, map}
-use Prim.Native.Nat.{ℕ, zero, suc, _+_, _≤_, _<_}
+use mathlib.Core.List.{List, [], _∷_, map}
+use Prim.Native.Nat.{ℕ, zero, suc, _+_, _<_}
 use native.Mathlib.Omega.{arith}
 use native.Mathlib.Nat.{add-zero, add-suc, suc-add}
-use lib.Dec.{T, leb, ltb, eqb, ltb→lt, eqb→eq, leb→le}
-use lib.ListN.{length, getD, length-append}
+use lib.Dec.{T, ltb, ltb→lt}
+use lib.ListN.{length, getD}
 use Rattle.octets.specs.Bytes.{Bytes}
 use Rattle.octets.proofs.Computed.{both, both-left, both-right, below, below-at}
 use Rattle.octets.proofs.Lists.{bytes-append}
@@ -31,7 +31,8 @@ pub matched-bytes : {r : Re} {s : List ℕ} → Matches r s → T (ofBytes r) �
 matched-bytes nothing t = tt
 matched-bytes (one {b = b} c h k) t = (omega (arith, ltb→lt b 256 t), tt)
 matched-bytes (joined {p = p} {q = q} u v e m w) t =
-    subst Bytes (sym e) (bytes-append u v (matched-bytes m (both-left (ofBytes p) (ofBytes q) t)) (matched-bytes w (both-right (ofBytes p) (ofBytes q) t)))
+    subst Bytes (sym e) (bytes-append u v (matched-bytes m (both-left (ofBytes p) (ofBytes q) t)) (matched-bytes w (both-right
+    (ofBytes p) (ofBytes q) t)))
 matched-bytes (left {p = p} {q = q} m) t = matched-bytes m (both-left (ofBytes p) (ofBytes q) t)
 matched-bytes (right {p = p} {q = q} m) t = matched-bytes m (both-right (ofBytes p) (ofBytes q) t)
 matched-bytes stop t = tt
@@ -59,7 +60,8 @@ absurd-not : {A : Type 0} (b : Bool) → T (not b) → b ≡ true → A
 absurd-not true t e = absurd t
 absurd-not false t e = absurd (let z : _≡_ {A = ℕ} 0 1 = cc in omega arith)
 
-pass : (p : ℕ → ℕ → Bool) (q c : ℕ) (d next : Re) (b : Bool) → b ≡ true → T (cond b (both (p q c) (same d next)) true) → T (both (p q c) (same d next))
+pass : (p : ℕ → ℕ → Bool) (q c : ℕ) (d next : Re) (b : Bool) → b ≡ true → T (cond b (both (p q c) (same d next)) true) → T (both (p q c)
+    (same d next))
 pass p q c d next true e t = t
 pass p q c d next false e t = absurd (let z : _≡_ {A = ℕ} 0 1 = cc in omega arith)
 
@@ -87,13 +89,15 @@ place-law p q n r [] t (c ∷ cs) b e =
     (fits-alive (alive (deriv c r)) (judgeFrom (deriv c r) (suc n) cs) n e .0)
 place-law p q n r (next ∷ more) t [] b e =
     let x = both-left (placeRow p q r next) (placed p (suc q) next more) t in
-    absurd-not (nullable r) (both-left (not (nullable r)) (below 256 (λ c. cond (alive (deriv c r)) (both (p q c) (same (deriv c r) next)) true)) x)
+    absurd-not (nullable r) (both-left (not (nullable r)) (below 256 (λ c. cond (alive (deriv c r)) (both (p q c) (same (deriv c r)
+    next)) true)) x)
     (fits-null (nullable r) n e)
 place-law p q n r (next ∷ more) t (c ∷ cs) b e =
     let rule : ℕ → Bool = λ x. cond (alive (deriv x r)) (both (p q x) (same (deriv x r) next)) true in
     let x = both-left (placeRow p q r next) (placed p (suc q) next more) t in
     let f = fits-alive (alive (deriv c r)) (judgeFrom (deriv c r) (suc n) cs) n e in
-    let g = pass p q c (deriv c r) next (alive (deriv c r)) (f .0) (below-at 256 rule (both-right (not (nullable r)) (below 256 rule) x) c (b .0)) in
+    let g = pass p q c (deriv c r) next (alive (deriv c r)) (f .0) (below-at 256 rule (both-right (not (nullable r)) (below 256 rule) x)
+    c (b .0)) in
     let d = same-eq (deriv c r) next (both-right (p q c) (same (deriv c r) next) g) in
     placed-cons p q (length more) c cs (both-left (p q c) (same (deriv c r) next) g)
     (place-law p (suc q) (suc n) next more (both-right (placeRow p q r next) (placed p (suc q) next more) t) cs (b .1)

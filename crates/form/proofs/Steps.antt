@@ -1,13 +1,12 @@
 -- What is left of a form after a text, and how a verdict is put together from parts of the text.
-use mathlib.Core.Path.{_≡_, refl, sym, ap, subst, subst⁻¹, _∙_}
-use mathlib.Core.Bool.{Bool, true, false, cond}
+use mathlib.Core.Path.{_≡_, refl, subst⁻¹}
+use mathlib.Core.Bool.{Bool, true, false}
 use mathlib.Core.List.{List, [], _∷_, _++_}
 use Prim.Native.Nat.{ℕ, suc}
 use lib.Dec.{T}
 use Rattle.octets.proofs.Computed.{both, both-left, both-right}
 use Rattle.form.specs.Regex.{Re, alive, deriv, judgeFrom}
-use Rattle.form.specs.declared.Verdict.{Verdict}
-use Rattle.form.specs.declared.Verdict.the-variants.{Fits, Stops}
+use Rattle.form.specs.declared.Verdict.the-variants.{Fits}
 use Rattle.form.proofs.Same.{same, same-eq}
 
 abbrev pub left : Re → List ℕ → Re

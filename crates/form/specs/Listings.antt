@@ -1,6 +1,5 @@
 -- The published forms, character by character. 000 is the API Definition, 001 the Logical Data Model.
-use Prim.Native.Nat.{ℕ}
-use Rattle.form.specs.Regex.{Re, empty, upto, _·_, _∣_, _⋯_, char, times, opt}
+use Rattle.form.specs.Regex.{Re, upto, _·_, _∣_, _⋯_, char, times, opt}
 
 -- \d
 abbrev pub digit : Re
@@ -36,7 +35,8 @@ abbrev pub monthDay : Re
 monthDay =
     ((char "0" · "1" ⋯ "9" ∣ char "1" · "0" ⋯ "2") · char "-" · (char "0" · "1" ⋯ "9" ∣ char "1" · digit ∣ char "2" · "0" ⋯ "8"))
     ∣ ((char "0" · (char "1" ∣ "3" ⋯ "9") ∣ char "1" · "0" ⋯ "2") · char "-" · (char "2" · char "9" ∣ char "3" · char "0"))
-    ∣ ((char "0" · (char "1" ∣ char "3" ∣ char "5" ∣ char "7" ∣ char "8") ∣ char "1" · (char "0" ∣ char "2")) · char "-" · char "3" · char "1")
+    ∣ ((char "0" · (char "1" ∣ char "3" ∣ char "5" ∣ char "7" ∣ char "8") ∣ char "1" · (char "0" ∣ char "2"))
+    · char "-" · char "3" · char "1")
 
 -- (?:[1-9]\d(?:0[48]|[2468][048]|[13579][26])|(?:[2468][048]|[13579][26])00)-02-29
 abbrev pub leapDay : Re
@@ -47,7 +47,8 @@ leapDay =
 -- T(?:[01]\d|2[0-3]):[0-5]\d:[0-5]\d(?:(\.\d{3}))
 abbrev pub clock : Re
 clock =
-    char "T" · ("0" ⋯ "1" · digit ∣ char "2" · "0" ⋯ "3") · char ":" · "0" ⋯ "5" · digit · char ":" · "0" ⋯ "5" · digit · char "." · times 3 digit
+    char "T" · ("0" ⋯ "1" · digit ∣ char "2" · "0" ⋯ "3") · char ":" · "0" ⋯ "5" · digit · char ":" · "0" ⋯ "5" · digit · char "." ·
+    times 3 digit
 
 -- (?:Z|[+-][01]\d:[0-5]\d)
 abbrev pub zone : Re

@@ -3,7 +3,7 @@ use Prim.Native.Nat.{ℕ, suc, _≤_, _<_}
 use mathlib.Core.Path.{_≡_}
 use mathlib.Core.List.{List, [], _∷_, _++_}
 use lib.ListN.{length, take}
-use Rattle.form.specs.Regex.{Re, none, empty, range, seq, alt, upto}
+use Rattle.form.specs.Regex.{Re, empty, range, seq, alt, upto}
 
 pub data Matches : Re → List ℕ → Type 0 where
   nothing : Matches empty []
@@ -18,7 +18,8 @@ pub data Matches : Re → List ℕ → Type 0 where
 abbrev pub Begins : List ℕ → List ℕ → Type 0
 Begins u t = (w : List ℕ) × (t ≡ u ++ w)
 
--- 02, L1: "the offset in that field of the first byte at which no text of the form can go on": no text that begins with the first n + 1 bytes
+-- 02, L1: "the offset in that field of the first byte at which no text of the form can go on": no text that begins with the first n + 1
+-- bytes
 -- matches, and some text that begins with the first n does
 pub record StopsInside (r : Re) (s : List ℕ) (n : ℕ) : Type 0 where
   pub inside : n < length s

@@ -1,7 +1,7 @@
 -- What every writer of a text answers, and what the lent buffer then holds (01, "Writers").
 use Prim.Native.Nat.{ℕ}
 use mathlib.Core.List.{List, _++_}
-use mathlib.Core.Bool.{Bool, cond}
+use mathlib.Core.Bool.{cond}
 use lib.Dec.{ltb}
 use lib.ListN.{length, drop}
 use Rattle.form.specs.declared.Written.{Written}

@@ -45,7 +45,8 @@ front-sets text vs old o at l e h =
     let g : at + n ≤ length o = rw (e, length-append, length-drop) (omega (arith, l)) in
     sets-eq vs o at g
     ∙ ap (λ (z : List ℕ). z ++ vs ++ drop (at + n) o) (ap (take at) e ∙ take-at text (drop at old) at (sym l))
-    ∙ ap (λ (z : List ℕ). text ++ vs ++ z) (ap (drop (at + n)) e ∙ ap (λ (k : ℕ). drop (k + n) (text ++ drop at old)) l ∙ drop-append-add text (drop at old) n ∙ drop-drop n at old)
+    ∙ ap (λ (z : List ℕ). text ++ vs ++ z) (ap (drop (at + n)) e ∙ ap (λ (k : ℕ). drop (k + n) (text ++ drop at old))
+    l ∙ drop-append-add text (drop at old) n ∙ drop-drop n at old)
 
 -- two runs of stores, one behind the other
 pub sets-append : (l : List ℕ) (i : ℕ) (xs ys : List ℕ) → sets l i (xs ++ ys) ≡ sets (sets l i xs) (i + length xs) ys

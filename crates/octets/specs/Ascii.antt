@@ -1,6 +1,6 @@
 -- Texts in quotes as lists of bytes, so that a definition shows the characters that the documents show.
 use Prim.Native.Nat.{ℕ}
-use Prim.Native.Char.{Char, code}
+use Prim.Native.Char.{code}
 use Prim.Native.String as Quoted
 use Prim.Native.String.{String}
 use mathlib.Core.List.{List, [], _∷_}

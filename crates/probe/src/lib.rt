@@ -1,8 +1,10 @@
 // The readers, the writers and the hash as C calls, for the tests and benchmarks outside Rattle. Proved safe and ending: what they hand over is
 // compared there, byte for byte, with a second implementation.
-use amount::{Amount, AmountRead};
+use amount::Amount;
+use amount::AmountRead;
 use datetime::InstantRead;
-use form::{Verdict, Written};
+use form::Verdict;
+use form::Written;
 use tokens::CodeRead;
 
 // A reader's answer to a text of the form; to any other it is the offset.

@@ -1,8 +1,8 @@
 -- The value of an abort code, at its four places.
 use mathlib.Core.Path.{_≡_, refl, sym, ap, _∙_}
 use mathlib.Core.Bool.{Bool, true, false, _&&_}
-use mathlib.Core.List.{List, [], _∷_, _++_}
-use Prim.Native.Nat.{ℕ, _+_, _-_, _*_, _≤_, _<_}
+use mathlib.Core.List.{List, [], _∷_}
+use Prim.Native.Nat.{ℕ, _≤_}
 use native.Mathlib.Omega.{arith}
 use lib.Dec.{leb}
 use lib.ListN.{length, getD}
@@ -15,7 +15,6 @@ use Rattle.form.proofs.Meaning.{fits}
 use Rattle.form.specs.declared.Verdict.{Verdict}
 use Rattle.form.specs.declared.Verdict.the-variants.{Fits, Stops}
 use Rattle.tokens.specs.Code.{isCurrency, isCode, fourPlaces, answer, readCode}
-use Rattle.tokens.specs.declared.CodeRead.{CodeRead}
 use Rattle.tokens.specs.declared.CodeRead.the-variants.{Value, Refused}
 
 -- four digits, the first not 0
@@ -100,8 +99,16 @@ code-passes s e =
     let f = digits s e in
     let o = f .others in
     rw (f .text)
-    (rw (le-leb 49 (f .a) (f .first .0), le-leb (f .a) 57 (f .first .1), le-leb 48 (f .b) (o .0), le-leb (f .b) 57 (o .1), le-leb 48 (f .c) (o .2),
-    le-leb (f .c) 57 (o .3), le-leb 48 (f .d) (o .4), le-leb (f .d) 57 (o .5)))
+    (rw (
+      le-leb 49 (f .a) (f .first .0),
+      le-leb (f .a) 57 (f .first .1),
+      le-leb 48 (f .b) (o .0),
+      le-leb (f .b) 57 (o .1),
+      le-leb 48 (f .c) (o .2),
+      le-leb (f .c) 57 (o .3),
+      le-leb 48 (f .d) (o .4),
+      le-leb (f .d) 57 (o .5),
+    ))
 
 -- the value at the four places
 pub value : (s : List ℕ) → length s ≡ 4 → fourPlaces (getD s 0 0) (getD s 1 0) (getD s 2 0) (getD s 3 0) ≡ decimal s

@@ -1,6 +1,6 @@
 -- The verdict on an FSP name, byte by byte.
-use mathlib.Core.Path.{_≡_, refl, sym, ap, subst, _∙_}
-use mathlib.Core.Bool.{Bool, true, false, cond, _&&_}
+use mathlib.Core.Path.{_≡_, refl, sym, ap, _∙_}
+use mathlib.Core.Bool.{Bool, true, false, _&&_}
 use mathlib.Core.List.{List, [], _∷_}
 use Prim.Native.Nat.{ℕ, zero, suc, _+_, _-_, _≤_, _<_}
 use native.Mathlib.Omega.{arith}
@@ -9,7 +9,7 @@ use lib.Dec.{leb}
 use lib.ListN.{length, getD, drop}
 use lib.Seq.{drop-cons, drop-length}
 use borrow.Author.Tests.{le-leb, lt-leb}
-use Rattle.form.specs.Regex.{Re, none, empty, range, seq, upto, _⋯_, deriv, judgeFrom, judge}
+use Rattle.form.specs.Regex.{Re, range, upto, _⋯_, judgeFrom}
 use Rattle.form.specs.Listings.{nameForm}
 use Rattle.form.specs.declared.Verdict.{Verdict}
 use Rattle.form.specs.declared.Verdict.the-variants.{Fits, Stops}
@@ -33,7 +33,8 @@ high c h = go (leb 33 c)
     go false = refl
 
 -- one more byte of the range, or one that is not
-goes : (c n : ℕ) (cs : List ℕ) (i : ℕ) → i < 32 → leb 33 c && leb c 126 ≡ true → judgeFrom (rest i) n (c ∷ cs) ≡ judgeFrom (rest (suc i)) (suc n) cs
+goes : (c n : ℕ) (cs : List ℕ) (i : ℕ) → i < 32 → leb 33 c && leb c 126 ≡ true → judgeFrom (rest i) n (c ∷ cs) ≡ judgeFrom (rest
+    (suc i)) (suc n) cs
 goes c n cs zero h e = simp e
 goes c n cs (suc i) h e =
     let f : 31 - i ≡ suc (31 - suc i) = omega arith in

@@ -2,9 +2,9 @@
 use mathlib.Core.Path.{_≡_, refl, sym, ap, _∙_}
 use mathlib.Core.Bool.{Bool, true, false, cond, _&&_}
 use mathlib.Core.List.{List, _++_}
-use Prim.Native.Nat.{ℕ, _+_, _≤_, _<_}
+use Prim.Native.Nat.{ℕ, _≤_, _<_}
 use native.Mathlib.Omega.{arith}
-use lib.Dec.{ltb, eqb}
+use lib.Dec.{eqb}
 use lib.ListN.{length, drop, getD, replicate}
 use lib.Seq.{take-all, sets}
 use Rattle.octets.proofs.Lists.{sets-start}
@@ -13,9 +13,8 @@ use Rattle.form.specs.Regex.{judge}
 use Rattle.form.specs.Listings.{idForm}
 use Rattle.form.specs.declared.Verdict.{Verdict}
 use Rattle.form.specs.declared.Verdict.the-variants.{Fits, Stops}
-use Rattle.form.specs.declared.Written.{Written}
 use Rattle.form.specs.declared.Written.the-variants.{Length, NotInForm, NoRoom}
-use Rattle.uuid.specs.Id.{answer, idOf, readId, textBefore, idText, inForm, writeId}
+use Rattle.uuid.specs.Id.{answer, idOf, readId, idText, inForm, writeId}
 use Rattle.uuid.specs.declared.IdRead.{IdRead}
 use Rattle.uuid.specs.Quick.{marksOf, SoFar}
 use Rattle.uuid.specs.declared.Quick.{Quick}

@@ -1,9 +1,8 @@
 -- The quick reader's steps: one byte more of a group.
 use mathlib.Core.Path.{_≡_, refl, sym, ap, subst, _∙_}
 use mathlib.Core.Bool.{Bool, true, false, cond, _&&_}
-use mathlib.Core.List.{List, []}
-use Prim.Native.Nat.{ℕ, zero, suc, _+_, _*_, _%_, _≤_, _<_}
-use native.Mathlib.Numerals.{add-one}
+use mathlib.Core.List.{List}
+use Prim.Native.Nat.{ℕ, suc, _+_, _*_, _%_, _≤_, _<_}
 use native.Mathlib.Omega.{arith}
 use lib.Dec.{T, ltb, eqb, ltb→lt, eqb→eq}
 use lib.ListN.{length, take, getD, set, length-set}
@@ -13,7 +12,6 @@ use Rattle.octets.proofs.Computed.{below, below-at}
 use Rattle.octets.proofs.Built.{build-step, build-at}
 use Rattle.uuid.specs.Id.{placeOf, isHex, hexValue, byteAt}
 use Rattle.uuid.specs.Quick.{digitOf, hexTable, digitsUpTo, InRow, SoFar}
-use Rattle.uuid.specs.declared.Quick.{Quick}
 
 pub table-at : (c : ℕ) → c < 256 → getD hexTable c 0 ≡ digitOf c
 unfolding hexTable
@@ -46,7 +44,9 @@ spot s k n at r j h =
 pub in-row : (s : List ℕ) (k n at : ℕ) → length s ≡ 36 → k + n ≤ 16 → T (below n (λ j. eqb (placeOf (k + j)) (at + 2 * j))) → InRow s k n at
 in-row s k n at l h t =
     record {
-      long = l; within = h; places = λ j i. eqb→eq (placeOf (k + j)) (at + 2 * j) (below-at n (λ x. eqb (placeOf (k + x)) (at + 2 * x)) t j i)
+      long = l;
+      within = h;
+      places = λ j i. eqb→eq (placeOf (k + j)) (at + 2 * j) (below-at n (λ x. eqb (placeOf (k + x)) (at + 2 * x)) t j i);
     }
 
 pub start : (s id : List ℕ) → length id ≡ 16 → SoFar s 0 (record { ok = true; id = id })
@@ -87,5 +87,5 @@ module _ (s : List ℕ) (k n at : ℕ) (r : InRow s k n at) (j : ℕ) (h : j < n
             let m : k + (j + 1) ≡ k + j + 1 = omega arith in
             ap (λ (z : ℕ). take z (set id (k + j) v)) m
             ∙ build-step (byteAt s) id (k + j) v (q .taken (b .0)) (byte-is (ltb-true high 16 (b .1)) (ltb-true low 16 (a .1))) l
-            ∙ ap (λ (z : ℕ). build z (byteAt s)) (sym m)
+            ∙ ap (λ (z : ℕ). build z (byteAt s)) (sym m);
       }

@@ -1,6 +1,6 @@
 -- Hexadecimal digits: the code's way to their value, and that value and digit are inverse. Each by one computed test.
-use mathlib.Core.Path.{_≡_, refl, sym, ap, _∙_}
-use mathlib.Core.Bool.{Bool, true, false, cond, _&&_, _||_}
+use mathlib.Core.Path.{_≡_, refl}
+use mathlib.Core.Bool.{Bool, true, false, _&&_, _||_}
 use mathlib.Core.Logic.{_⊎_, inl, inr, ⊎-elim}
 use Prim.Native.Nat.{ℕ, _+_, _*_, _/_, _%_, _<_}
 use native.Mathlib.Omega.{arith}
@@ -54,11 +54,13 @@ module _ (n : ℕ) (h : n < 16) where
 
 -- a digit is a byte
 pub hex-byte : (c : ℕ) → T (isHex c) → c < 256
-hex-byte c t = ⊎-elim (λ a. small (leb 48 c) (leb c 57) 57 a refl refl (omega arith)) (λ a. small (leb 97 c) (leb c 102) 102 a refl refl (omega arith)) (either (leb 48 c && leb c 57) (leb 97 c && leb c 102) t)
+hex-byte c t = ⊎-elim (λ a. small (leb 48 c) (leb c 57) 57 a refl refl (omega arith)) (λ a. small (leb 97 c) (leb c 102)
+    102 a refl refl (omega arith)) (either (leb 48 c && leb c 57) (leb 97 c && leb c 102) t)
   where
     either : (a b : Bool) → T (a || b) → T a ⊎ T b
     either true b u = inl tt
     either false b u = inr u
+
     small : (a b : Bool) (m : ℕ) → T (a && b) → {x : Bool} → a ≡ x → leb c m ≡ b → m < 256 → c < 256
     small true true m u p q h = omega (arith, leb-true c m q)
     small true false m u p q h = absurd u

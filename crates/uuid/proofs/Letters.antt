@@ -1,7 +1,7 @@
 -- What a text of the form has at each place.
 use mathlib.Core.Path.{_≡_, subst}
-use mathlib.Core.Bool.{Bool, true, false, cond, _&&_, _||_}
-use mathlib.Core.List.{List, []}
+use mathlib.Core.Bool.{Bool, cond, _&&_, _||_}
+use mathlib.Core.List.{List}
 use Prim.Native.Nat.{ℕ, _+_, _<_}
 use Prim.Native.Char.{code}
 use native.Mathlib.Nat.{zero-add}
@@ -12,7 +12,6 @@ use lib.ListN.{length, getD}
 use Rattle.octets.proofs.Computed.{both, both-left, both-right, implies, implied, below, below-at}
 use Rattle.form.specs.Regex.{judge}
 use Rattle.form.specs.Listings.{idForm}
-use Rattle.form.specs.declared.Verdict.{Verdict}
 use Rattle.form.specs.declared.Verdict.the-variants.{Fits}
 use Rattle.form.proofs.Same.{same}
 use Rattle.form.proofs.Words.{idWords}

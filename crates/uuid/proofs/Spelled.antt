@@ -1,10 +1,8 @@
 -- The writer's steps: pair by pair, and group by group to the whole text.
 use mathlib.Core.Path.{_≡_, refl, sym, ap, _∙_}
-use mathlib.Core.Bool.{Bool, true, false}
-use mathlib.Core.List.{List, [], _∷_, _++_}
-use Prim.Native.Nat.{ℕ, zero, suc, _+_, _*_, _/_, _%_, _≤_, _<_}
+use mathlib.Core.List.{List, _++_}
+use Prim.Native.Nat.{ℕ, zero, suc, _+_, _*_, _/_, _%_, _<_}
 use native.Mathlib.Numerals.{add-one}
-use native.Mathlib.Nat.{add-zero}
 use native.Mathlib.Omega.{arith}
 use lib.Dec.{T, eqb, eqb→eq}
 use lib.ListN.{length, getD, set, length-append}
@@ -38,12 +36,14 @@ pair-step b old out k j at high low e f g =
     ∙ ap (λ (n : ℕ). sets old at (pairsOf k n b)) (sym (add-one j))
 
 -- a text behind a text of known length
-pub behind : (old out out′ : List ℕ) (from at : ℕ) (text more : List ℕ) → out ≡ sets old from text → at ≡ from + length text → out′ ≡ sets out at more →
+pub behind : (old out out′ : List ℕ) (from at : ℕ) (text more : List ℕ)
+    → out ≡ sets old from text → at ≡ from + length text → out′ ≡ sets out at more →
     out′ ≡ sets old from (text ++ more)
 behind old out out′ from at text more e l f = f ∙ (λ i. sets (e i) (l i) more) ∙ sym (sets-append old from text more)
 
 -- the groups have their lengths, and make the text
-pub front-long : (b : List ℕ) → (length (pairsOf 0 4 b) ≡ 8) × (length (pairsOf 0 4 b ++ dashedPairs 4 2 b) ≡ 13) × (length (frontText b) ≡ 18)
+pub front-long : (b : List ℕ) → (length (pairsOf 0 4 b) ≡ 8) × (length (pairsOf 0 4 b ++ dashedPairs 4 2 b) ≡ 13) × (length
+    (frontText b) ≡ 18)
 unfolding pairsOf
 front-long b = (refl, refl, refl)
 

@@ -3,34 +3,33 @@ use mathlib.Core.Path.{_≡_, refl, sym, ap, subst, subst⁻¹, _∙_}
 use mathlib.Core.Bool.{Bool, true, false, cond, _&&_}
 use mathlib.Core.List.{List, [], _∷_, _++_, append-nil, append-assoc}
 use mathlib.Core.Logic.{_↔_}
-use Prim.Native.Nat.{ℕ, zero, suc, _+_, _-_, _*_, _/_, _%_, _≤_, _<_}
+use Prim.Native.Nat.{ℕ, zero, suc, _+_, _-_, _/_, _%_, _≤_, _<_}
 use native.Mathlib.Decide.{ℕ-discrete, decLt}
 use native.Mathlib.Omega.{arith}
 use native.Mathlib.Nat.{zero-add}
 use native.Mathlib.Numerals.{add-one}
-use lib.Dec.{T, ltb, leb, eqb, ltb→lt, eqb→eq, leb→le}
+use lib.Dec.{T, ltb, leb, eqb, eqb→eq, leb→le}
 use lib.ListN.{length, take, drop, getD, length-append, List·getD-eq-default}
 use borrow.Author.Tests.{eq-eqb}
-use lib.Seq.{take-add, drop-cons, take-all, take-length, getD-append-add, ext-getD}
+use lib.Seq.{take-add, drop-cons, take-all, getD-append-add, ext-getD}
 use Rattle.octets.specs.Ascii.{ascii}
 use Rattle.octets.specs.Bytes.{Bytes}
 use Rattle.octets.specs.Build.{build}
-use Rattle.octets.proofs.Computed.{both, both-left, both-right, implies, implied, below, below-at}
+use Rattle.octets.proofs.Computed.{implies, implied, below, below-at}
 use Rattle.octets.proofs.Built.{length-build, build-at}
 use Rattle.octets.proofs.Lists.{bytes, byte-at}
-use Rattle.form.specs.Regex.{Re, judge, judgeFrom}
+use Rattle.form.specs.Regex.{Re, judge}
 use Rattle.form.specs.Listings.{idForm}
 use Rattle.form.specs.Matches.{Matches}
 use Rattle.form.specs.Writing.{intoRoom}
 use Rattle.form.specs.declared.Verdict.{Verdict}
 use Rattle.form.specs.declared.Verdict.the-variants.{Fits, Stops}
-use Rattle.form.specs.declared.Written.{Written}
 use Rattle.form.specs.declared.Written.the-variants.{Length, NotInForm, NoRoom}
 use Rattle.form.proofs.Meaning.{fits}
 use Rattle.form.proofs.Same.{same}
 use Rattle.form.proofs.Steps.{left, leads, Ends, on, is-true}
 use Rattle.uuid.specs.declared.IdRead.{IdRead}
-use Rattle.uuid.specs.Id.{dashBefore, placeOf, isHex, hexValue, hexChar, byteAt, idOf, answer, readId, pairText, byteText, textBefore, idText, inForm, writeId}
+use Rattle.uuid.specs.Id.{dashBefore, placeOf, hexValue, hexChar, byteAt, idOf, answer, readId, pairText, byteText, textBefore, idText, inForm, writeId}
 use Rattle.uuid.proofs.Hex.{char-value, value-small, value-char, hex-byte}
 use Rattle.uuid.proofs.WellMade.{sofar, versionRule, variantRule, WellMade, from-listing}
 use Rattle.uuid.proofs.Spelled.{step}
@@ -104,9 +103,11 @@ module _ (b : List ℕ) (e : inForm b ≡ true) where
   rules k = go (eqb k 6) refl (eqb k 8) refl
     where
       go : (p : Bool) → eqb k 6 ≡ p → (q : Bool) → eqb k 8 ≡ q →
-          T (cond p (leb 1 (getD b k 0 / 16) && leb (getD b k 0 / 16) 5) (cond q (leb 8 (getD b k 0 / 16) && leb (getD b k 0 / 16) 11) true))
+          T (cond p (leb 1 (getD b k 0 / 16) && leb (getD b k 0 / 16) 5) (cond q (leb 8 (getD b k 0 / 16) && leb (getD b k 0 / 16) 11)
+          true))
       go true f q g = subst⁻¹ (λ (i : ℕ). T (leb 1 (getD b i 0 / 16) && leb (getD b i 0 / 16) 5)) (eqb→eq k 6 (to-test f)) (to-test version)
-      go false f true g = subst⁻¹ (λ (i : ℕ). T (leb 8 (getD b i 0 / 16) && leb (getD b i 0 / 16) 11)) (eqb→eq k 8 (to-test g)) (to-test variant)
+      go false f true g = subst⁻¹ (λ (i : ℕ). T (leb 8 (getD b i 0 / 16) && leb (getD b i 0 / 16) 11)) (eqb→eq k 8 (to-test g))
+          (to-test variant)
       go false f false g = tt
 
   pub text-fits : Bytes b → judge idForm (idText b) ≡ Fits
@@ -119,7 +120,8 @@ unfolding idText
 split b zero k e = sym (append-nil (textBefore k b) ∙ ap (λ (i : ℕ). textBefore i b) (sym (zero-add k) ∙ e))
 split b (suc j) k e =
     split b j (suc k) (omega arith)
-    ∙ ap (λ (t : List ℕ). t ++ textFrom j (suc k) b) (step b k) ∙ append-assoc (textBefore k b) (byteText k (getD b k 0)) (textFrom j (suc k) b)
+    ∙ ap (λ (t : List ℕ). t ++ textFrom j (suc k) b) (step b k) ∙ append-assoc (textBefore k b) (byteText k (getD b k 0)) (textFrom j
+    (suc k) b)
 
 byte-long : (k x y : ℕ) → length (byteText k x) ≡ length (byteText k y)
 byte-long k x y = go (dashBefore k)
@@ -175,9 +177,9 @@ byte-back b small k h =
     let s : x < 256 = byte-at b small k in
     let p : placeOf k ≡ placeOf k + 0 = omega arith in
     let high : hexValue (getD (idText b) (placeOf k) 0) ≡ x / 16 =
-        ap (λ (n : ℕ). hexValue (getD (idText b) n 0)) p ∙ ap hexValue (digit-at b k h 0 (omega arith)) ∙ value-char (x / 16) (omega arith) in
+    ap (λ (n : ℕ). hexValue (getD (idText b) n 0)) p ∙ ap hexValue (digit-at b k h 0 (omega arith)) ∙ value-char (x / 16) (omega arith) in
     let low : hexValue (getD (idText b) (placeOf k + 1) 0) ≡ x % 16 =
-        ap hexValue (digit-at b k h 1 (omega arith)) ∙ value-char (x % 16) (omega arith) in
+    ap hexValue (digit-at b k h 1 (omega arith)) ∙ value-char (x % 16) (omega arith) in
     omega arith
 
 value-back : (b : List ℕ) → length b ≡ 16 → Bytes b → idOf (idText b) ≡ b
@@ -192,7 +194,8 @@ reads-fits : (s b : List ℕ) → Reads s b → (judge idForm s ≡ Fits) × (id
 unfolding readId
 reads-fits s b e = go (judge idForm s) refl e
   where
-    go : (v : Verdict) → judge idForm s ≡ v → _≡_ {A = IdRead} (answer v (idOf s)) (record { verdict = Fits; id = b }) → (judge idForm s ≡ Fits) × (idOf s ≡ b)
+    go : (v : Verdict) → judge idForm s ≡ v → _≡_ {A = IdRead} (answer v (idOf s)) (record { verdict = Fits; id = b }) →
+        (judge idForm s ≡ Fits) × (idOf s ≡ b)
     go Fits f g = (f, ap (λ (r : IdRead). r .id) g)
     go (Stops n) f g = absurd (let z : _≡_ {A = ℕ} 0 1 = cc (ap (λ (r : IdRead). r .verdict) g) in omega arith)
 
@@ -202,7 +205,8 @@ fits-reads s e = ap (λ (v : Verdict). answer v (idOf s)) e
 
 -- what a text of the form says of the bytes
 module _ (s : List ℕ) (w : WellMade s) where
-  halves : (k : ℕ) → k < 16 → (byteAt s k / 16 ≡ hexValue (getD s (placeOf k) 0)) × (byteAt s k % 16 ≡ hexValue (getD s (placeOf k + 1) 0)) × (byteAt s k < 256)
+  halves : (k : ℕ) → k < 16 → (byteAt s k / 16 ≡ hexValue (getD s (placeOf k) 0)) × (byteAt s k % 16 ≡ hexValue (getD s (placeOf k + 1)
+      0)) × (byteAt s k < 256)
   unfolding byteAt
   halves k h =
       let x = hexValue (getD s (placeOf k) 0) in
@@ -223,25 +227,30 @@ module _ (s : List ℕ) (w : WellMade s) where
   id-bytes = bytes (idOf s) each
     where
       each : (k : ℕ) → getD (idOf s) k 0 < 256
-      each k = elim (decLt k 16)
-          [ yes h ↦ rw (at k h) (halves k h .2)
-          | no h ↦ (let l : length (idOf s) ≤ k = omega (arith, id-long) in rw (List·getD-eq-default (idOf s) 0 l) (omega arith)) ]
+      each k = elim (decLt k 16) [
+        | yes h ↦ rw (at k h) (halves k h .2)
+        | no h ↦ (let l : length (idOf s) ≤ k = omega (arith, id-long) in rw (List·getD-eq-default (idOf s) 0 l) (omega arith))
+      ]
 
   first-digit : (n : ℕ) → n < 16 → getD (idOf s) n 0 / 16 ≡ hexValue (getD s (placeOf n) 0)
   first-digit n h = ap (λ (x : ℕ). x / 16) (at n h) ∙ halves n h .0
 
   pub id-in-form : inForm (idOf s) ≡ true
   id-in-form =
-      let v = and-parts (leb 1 (hexValue (getD s 14 0))) (leb (hexValue (getD s 14 0)) 5) (is-true (versionRule (getD s 14 0)) (w .version)) in
-      let u = and-parts (leb 8 (hexValue (getD s 19 0))) (leb (hexValue (getD s 19 0)) 11) (is-true (variantRule (getD s 19 0)) (w .variant)) in
+      let v = and-parts (leb 1 (hexValue (getD s 14 0))) (leb (hexValue (getD s 14 0)) 5) (is-true (versionRule (getD s 14 0))
+      (w .version)) in
+      let u = and-parts (leb 8 (hexValue (getD s 19 0))) (leb (hexValue (getD s 19 0)) 11) (is-true (variantRule (getD s 19 0))
+      (w .variant)) in
       rw (eq-eqb (length (idOf s)) 16 id-long, first-digit 6 (omega arith), first-digit 8 (omega arith), v .0, v .1, u .0, u .1)
 
   -- the text of byte k is what stands in the text there
   pair-here : (k : ℕ) → k < 16 → pairText (byteAt s k) ≡ getD s (placeOf k) 0 ∷ getD s (placeOf k + 1) 0 ∷ []
   pair-here k h =
       let v = halves k h in
-      let high : hexChar (byteAt s k / 16) ≡ getD s (placeOf k) 0 = ap hexChar (v .0) ∙ char-value (getD s (placeOf k) 0) (hex-byte (getD s (placeOf k) 0) (w .high k h)) (w .high k h) in
-      let low : hexChar (byteAt s k % 16) ≡ getD s (placeOf k + 1) 0 = ap hexChar (v .1) ∙ char-value (getD s (placeOf k + 1) 0) (hex-byte (getD s (placeOf k + 1) 0) (w .low k h)) (w .low k h) in
+      let high : hexChar (byteAt s k / 16) ≡ getD s (placeOf k) 0 = ap hexChar (v .0) ∙ char-value (getD s (placeOf k) 0) (hex-byte
+      (getD s (placeOf k) 0) (w .high k h)) (w .high k h) in
+      let low : hexChar (byteAt s k % 16) ≡ getD s (placeOf k + 1) 0 = ap hexChar (v .1) ∙ char-value (getD s (placeOf k + 1) 0)
+      (hex-byte (getD s (placeOf k + 1) 0) (w .low k h)) (w .low k h) in
       λ i. high i ∷ low i ∷ []
 
   two-here : (n : ℕ) → n + 2 ≤ 36 → take 2 (drop n s) ≡ getD s n 0 ∷ getD s (n + 1) 0 ∷ []
@@ -265,14 +274,17 @@ module _ (s : List ℕ) (w : WellMade s) where
 
   piece : (k : ℕ) → k < 16 → take (length (byteText k 0)) (drop (sofar k) s) ≡ byteText k (byteAt s k)
   piece k h =
-      go (dashBefore k) (sofar k) (w .dash k h) (place-is k h) (leb→le (sofar k + length (byteText k 0)) 36 (below-at 16 (λ i. leb (sofar i + length (byteText i 0)) 36) rooms k h))
+      go (dashBefore k) (sofar k) (w .dash k h) (place-is k h) (leb→le (sofar k + length (byteText k 0)) 36 (below-at 16 (λ i. leb
+      (sofar i + length (byteText i 0)) 36) rooms k h))
     where
-      go : (d : Bool) (n : ℕ) → T (implies d (eqb (getD s n 0) 45)) → placeOf k ≡ n + cond d 1 0 → n + length (cond d (45 ∷ pairText 0) (pairText 0)) ≤ 36 →
+      go : (d : Bool) (n : ℕ) → T (implies d (eqb (getD s n 0) 45)) → placeOf k ≡ n + cond d 1 0 → n + length (cond d (45 ∷ pairText 0)
+          (pairText 0)) ≤ 36 →
           take (length (cond d (45 ∷ pairText 0) (pairText 0))) (drop n s) ≡ cond d (45 ∷ pairText (byteAt s k)) (pairText (byteAt s k))
       go true n t p l =
           let q : placeOf k + 1 ≡ n + 2 = omega arith in
           three-here n l
-          ∙ (λ i. eqb→eq (getD s n 0) 45 t i ∷ getD s (sym p i) 0 ∷ getD s (sym q i) 0 ∷ []) ∙ sym (ap (λ (z : List ℕ). 45 ∷ z) (pair-here k h))
+          ∙ (λ i. eqb→eq (getD s n 0) 45 t i ∷ getD s (sym p i) 0 ∷ getD s (sym q i) 0 ∷ []) ∙ sym (ap (λ (z : List ℕ). 45 ∷ z)
+          (pair-here k h))
       go false n t p l =
           let a : n ≡ placeOf k = omega arith in
           two-here n l ∙ (λ i. getD s (a i) 0 ∷ getD s (a i + 1) 0 ∷ []) ∙ sym (pair-here k h)

@@ -1,18 +1,17 @@
 -- A text of 36 characters with digits, dashes, version and variant at their places: what both the listing and the quick reader's tests say.
-use mathlib.Core.Path.{_≡_, refl, sym, ap, subst, subst⁻¹, _∙_}
-use mathlib.Core.Bool.{Bool, true, false, cond, _&&_, _||_}
+use mathlib.Core.Path.{_≡_, refl, ap, subst⁻¹, _∙_}
+use mathlib.Core.Bool.{Bool, true, cond, _&&_, _||_}
 use mathlib.Core.List.{List, []}
 use Prim.Native.Nat.{ℕ, zero, suc, _+_, _≤_, _<_}
 use Prim.Native.Char.{code}
 use native.Mathlib.Decide.{ℕ-discrete}
 use native.Mathlib.Omega.{arith}
-use lib.Dec.{T, ltb, leb, eqb, ltb→lt}
+use lib.Dec.{T, ltb, leb, eqb}
 use lib.ListN.{length, getD}
 use borrow.Author.Tests.{ltb-true, lt-ltb}
 use Rattle.octets.proofs.Computed.{both, implies, implied, below, below-at}
 use Rattle.form.specs.Regex.{judge}
 use Rattle.form.specs.Listings.{idForm}
-use Rattle.form.specs.declared.Verdict.{Verdict}
 use Rattle.form.specs.declared.Verdict.the-variants.{Fits}
 use Rattle.form.proofs.Steps.{is-true}
 use Rattle.uuid.specs.Id.{dashBefore, placeOf, isHex, hexValue, textBefore}
@@ -49,7 +48,7 @@ from-listing s e =
       low = low-hex s e;
       dash = at-place s e 16 sofar (λ k c. implies (dashBefore k) (eqb c (code "-"))) tt;
       version = at-place s e 1 (λ k. 14) (λ k c. versionRule c) tt 0 (omega arith);
-      variant = at-place s e 1 (λ k. 19) (λ k c. variantRule c) tt 0 (omega arith)
+      variant = at-place s e 1 (λ k. 19) (λ k c. variantRule c) tt 0 (omega arith);
     }
 
 -- by the tests
@@ -62,11 +61,12 @@ digits-at s (suc n) e k h =
     let y = digitOf (getD s (placeOf n + 1) 0) in
     let a = and-true (digitsUpTo n s && ltb x 16) (ltb y 16) e in
     let b = and-true (digitsUpTo n s) (ltb x 16) (a .0) in
-    elim (ℕ-discrete k n)
-    [ yes f ↦
-      subst⁻¹ (λ (i : ℕ). T (isHex (getD s (placeOf i) 0)) × T (isHex (getD s (placeOf i + 1) 0))) f
-      (digit-value (getD s (placeOf n) 0) (ltb-true x 16 (b .1)) .0, digit-value (getD s (placeOf n + 1) 0) (ltb-true y 16 (a .1)) .0)
-    | no f ↦ digits-at s n (b .0) k (omega arith) ]
+    elim (ℕ-discrete k n) [
+      | yes f ↦
+          subst⁻¹ (λ (i : ℕ). T (isHex (getD s (placeOf i) 0)) × T (isHex (getD s (placeOf i + 1) 0))) f
+          (digit-value (getD s (placeOf n) 0) (ltb-true x 16 (b .1)) .0, digit-value (getD s (placeOf n + 1) 0) (ltb-true y 16 (a .1)) .0)
+      | no f ↦ digits-at s n (b .0) k (omega arith)
+    ]
 
 to-test : {a : Bool} → a ≡ true → T a
 to-test e = subst⁻¹ T e tt
@@ -96,10 +96,11 @@ from-tests s l d m small =
       dash = below-at 16 (λ k. implies (dashBefore k) (eqb (getD s (sofar k) 0) (code "-"))) dashes;
       version =
           implied (leb (code "1") (getD s 14 0) && leb (getD s 14 0) (code "5")) (versionRule (getD s 14 0))
-          (below-at 256 (λ c. implies (leb (code "1") c && leb c (code "5")) (versionRule c)) versions-tested (getD s 14 0) (small 14)) (to-test (b .1));
+          (below-at 256 (λ c. implies (leb (code "1") c && leb c (code "5")) (versionRule c)) versions-tested (getD s 14 0) (small 14))
+          (to-test (b .1));
       variant =
           implied (variantChar (getD s 19 0)) (variantRule (getD s 19 0))
-          (below-at 256 (λ c. implies (variantChar c) (variantRule c)) variants-tested (getD s 19 0) (small 19)) (to-test (a .1))
+          (below-at 256 (λ c. implies (variantChar c) (variantRule c)) variants-tested (getD s 19 0) (small 19)) (to-test (a .1));
     }
 
 -- the tests pass on a text of the form
@@ -111,13 +112,22 @@ digits-pass s w (suc k) h =
     rw (digits-pass s w k (omega arith), passes (getD s (placeOf k) 0) (w .high k i), passes (getD s (placeOf k + 1) 0) (w .low k i))
   where
     passes : (c : ℕ) → T (isHex c) → ltb (digitOf c) 16 ≡ true
-    passes c t = ap (λ (b : Bool). ltb (cond b (hexValue c) 255) 16) (is-true (isHex c) t) ∙ lt-ltb (hexValue c) 16 (value-small c (hex-byte c t) t)
+    passes c t = ap (λ (b : Bool). ltb (cond b (hexValue c) 255) 16) (is-true (isHex c) t) ∙ lt-ltb (hexValue c) 16 (value-small c
+        (hex-byte c t) t)
 
 pub pass : (s : List ℕ) → judge idForm s ≡ Fits → (length s ≡ 36) × (digitsUpTo 16 s && marksOf s ≡ true)
 pass s e =
     let w = from-listing s e in
     let char : (i : ℕ) (q : ℕ → Bool) → T (follows 1 (λ k. i) (λ k c. q c)) → q (getD s i 0) ≡ true =
-        λ i q t. is-true (q (getD s i 0)) (at-place s e 1 (λ k. i) (λ k c. q c) t 0 (omega arith)) in
-    (w .long,
-    rw (digits-pass s w 16 (omega arith), char 8 (λ c. eqb c (code "-")) tt, char 13 (λ c. eqb c (code "-")) tt, char 18 (λ c. eqb c (code "-")) tt,
-    char 23 (λ c. eqb c (code "-")) tt, char 14 (λ c. leb (code "1") c && leb c (code "5")) tt, char 19 variantChar tt))
+    λ i q t. is-true (q (getD s i 0)) (at-place s e 1 (λ k. i) (λ k c. q c) t 0 (omega arith)) in (
+      w .long,
+      rw (
+        digits-pass s w 16 (omega arith),
+        char 8 (λ c. eqb c (code "-")) tt,
+        char 13 (λ c. eqb c (code "-")) tt,
+        char 18 (λ c. eqb c (code "-")) tt,
+        char 23 (λ c. eqb c (code "-")) tt,
+        char 14 (λ c. leb (code "1") c && leb c (code "5")) tt,
+        char 19 variantChar tt,
+      ),
+    )

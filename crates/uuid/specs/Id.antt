@@ -2,7 +2,7 @@
 use Prim.Native.Nat.{ℕ, zero, suc, _+_, _-_, _*_, _/_, _%_}
 use Prim.Native.Char.{code}
 use mathlib.Core.List.{List, [], _∷_, _++_}
-use mathlib.Core.Bool.{Bool, true, false, cond, _&&_, _||_}
+use mathlib.Core.Bool.{Bool, false, cond, _&&_, _||_}
 use lib.Dec.{ltb, leb, eqb}
 use lib.ListN.{length, getD, replicate}
 use Rattle.octets.specs.Build.{build}
@@ -62,7 +62,8 @@ idText b = textBefore 16 b
 -- 01: "third group starting with 1 to 5, fourth with 8, 9, a or b": the first digits of the bytes 6 and 8
 abbrev pub inForm : List ℕ → Bool
 inForm b =
-    cond (eqb (length b) 16) (leb 1 (getD b 6 0 / 16) && leb (getD b 6 0 / 16) 5 && leb 8 (getD b 8 0 / 16) && leb (getD b 8 0 / 16) 11) false
+    cond (eqb (length b) 16) (leb 1 (getD b 6 0 / 16) && leb (getD b 6 0 / 16) 5 && leb 8 (getD b 8 0 / 16) && leb (getD b 8 0 / 16) 11)
+    false
 
 -- 01, "Writers": "1 for an amount or id that no text reads to"; "23"
 unfoldable pub writeId : List ℕ → ℕ → Written

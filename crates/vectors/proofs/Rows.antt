@@ -10,7 +10,6 @@ use Rattle.amount.specs.declared.AmountRead.{AmountRead}
 use Rattle.amount.specs.declared.AmountRead.the-variants as amount
 use Rattle.datetime.specs.Calendar.{before}
 use Rattle.datetime.specs.Instant.{timeOf, offsetAfter, epoch, readDateTime}
-use Rattle.datetime.specs.declared.InstantRead.{InstantRead}
 use Rattle.datetime.specs.declared.InstantRead.the-variants.{Value}
 
 -- a text and what it reads to

@@ -72,7 +72,9 @@ fn hashes() {
     say(b"  448 bits: ");
     say_digest(sha256::hash(b"abcdbcdecdefdefgefghfghighijhijkijkljklmklmnlmnomnopnopq"));
     say(b"  896 bits: ");
-    say_digest(sha256::hash(b"abcdefghbcdefghicdefghijdefghijkefghijklfghijklmghijklmnhijklmnoijklmnopjklmnopqklmnopqrlmnopqrsmnopqrstnopqrstu"));
+    say_digest(sha256::hash(
+        b"abcdefghbcdefghicdefghijdefghijkefghijklfghijklmghijklmnhijklmnoijklmnopjklmnopqklmnopqrlmnopqrsmnopqrstnopqrstu",
+    ));
     hash_letters(55);
     hash_letters(56);
     hash_letters(63);
@@ -152,10 +154,26 @@ fn main() {
     say(b"DateTimes, in milliseconds from 1970-01-01T00:00:00.000Z\n");
     instant_row(b"2000-02-29T00:00:00.000Z", 951782400000, b"951782400000");
     instant_row(b"1900-02-29T00:00:00.000Z", 0, b"");
-    instant_row(b"1000-01-01T00:00:00.000Z", -30610224000000, b"-30610224000000");
-    instant_row(b"9999-12-31T23:59:59.999Z", 253402300799999, b"253402300799999");
-    instant_row(b"9999-12-31T23:59:59.999-19:59", 253402372739999, b"253402372739999");
-    instant_row(b"1000-01-01T00:00:00.000+19:59", -30610295940000, b"-30610295940000");
+    instant_row(
+        b"1000-01-01T00:00:00.000Z",
+        -30610224000000,
+        b"-30610224000000",
+    );
+    instant_row(
+        b"9999-12-31T23:59:59.999Z",
+        253402300799999,
+        b"253402300799999",
+    );
+    instant_row(
+        b"9999-12-31T23:59:59.999-19:59",
+        253402372739999,
+        b"253402372739999",
+    );
+    instant_row(
+        b"1000-01-01T00:00:00.000+19:59",
+        -30610295940000,
+        b"-30610295940000",
+    );
     say(b"  ");
     written_row(-30610224000001, b"-30610224000001");
     say(b"  ");

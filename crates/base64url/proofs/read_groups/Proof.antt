@@ -2,7 +2,7 @@
 -- characters to come are letters exactly if all are.
 use mathlib.Core.Path.{_≡_, refl}
 use mathlib.Core.List.{_++_, map}
-use Prim.Native.Nat.{ℕ, _+_, _-_, _*_, _≤_}
+use Prim.Native.Nat.{ℕ, _-_, _*_, _≤_}
 use native.Mathlib.Omega.{arith}
 use lib.ListN.{length, take, drop, length-set}
 use borrow.Author.Needs.{needs}
@@ -73,7 +73,8 @@ refused-requires c κs =
     (not-true _ (c .if1 .taken)) in (
       p .0,
       not-letters s
-          (bytes s (λ (i : ℕ). c .before .before .before .before .before .before .before .before .before .shared-slice-known .given i .fits)) e,
+          (bytes s (λ (i : ℕ). c .before .before .before .before .before .before .before .before .before .shared-slice-known .given i
+          .fits)) e,
     )
 
 returns : tie.Need-returns Inv-loop μ-loop

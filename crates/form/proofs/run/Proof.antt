@@ -28,7 +28,8 @@ returns : tie.Need-returns Inv-loop μ-loop
 returns c =
     let a = c .before .before .before .before .before .before .before .args in
     let l = c .before .before .before .before .loop in (
-      stop-at named (a .class .now) (a .next .now) (a .s .now) (l .i) (l .q) (c .before .step .result) _ (l .inv .1) (search needs) (c .before .step .ensures)
+      stop-at named (a .class .now) (a .next .now) (a .s .now) (l .i) (l .q) (c .before .step .result) _ (l .inv .1) (search needs)
+          (c .before .step .ensures)
           (c .if1 .taken),
       bytes (a .s .now) (λ (k : ℕ). c .before .before .shared-slice-known3 .given k .fits),
     )
@@ -47,7 +48,8 @@ loop-again c =
     let a = c .before .before .before .before .before .before .before .args in
     let l = c .before .before .before .before .loop in (
       search needs,
-      go-on named (a .class .now) (a .next .now) (a .s .now) (l .i) (l .q) (c .before .step .result) _ (l .inv .1) (search needs) (c .before .step .ensures)
+      go-on named (a .class .now) (a .next .now) (a .s .now) (l .i) (l .q) (c .before .step .result) _ (l .inv .1) (search needs)
+          (c .before .step .ensures)
           (c .if1 .left),
     )
 
@@ -58,7 +60,8 @@ returns-2 : tie.Need-returns-2 Inv-loop μ-loop
 returns-2 c =
     let a = c .before .before .before .before .before .before .args in
     let l = c .before .before .before .loop in (
-      stop-end named (a .class .now) (a .next .now) (a .s .now) (l .i) (l .q) (c .before .look .result) _ (l .inv .1) (search needs) (search needs)
+      stop-end named (a .class .now) (a .next .now) (a .s .now) (l .i) (l .q) (c .before .look .result) _ (l .inv .1) (search needs)
+          (search needs)
           (c .before .look .ensures) (c .if2 .taken),
       bytes (a .s .now) (λ (k : ℕ). c .before .before .before .before .shared-slice-known2 .given k .fits),
     )
@@ -67,7 +70,8 @@ returns-3 : tie.Need-returns-3 Inv-loop μ-loop
 returns-3 c =
     let a = c .before .before .before .before .before .before .args in
     let l = c .before .before .before .loop in (
-      fit-end named (a .class .now) (a .next .now) (a .s .now) (l .i) (l .q) (c .before .look .result) _ (l .inv .1) (search needs) (search needs)
+      fit-end named (a .class .now) (a .next .now) (a .s .now) (l .i) (l .q) (c .before .look .result) _ (l .inv .1) (search needs)
+          (search needs)
           (c .before .look .ensures) (c .if2 .left),
       bytes (a .s .now) (λ (k : ℕ). c .before .before .before .before .shared-slice-known2 .given k .fits),
     )

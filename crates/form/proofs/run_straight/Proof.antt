@@ -28,7 +28,8 @@ returns : tie.Need-returns Inv-loop μ-loop
 returns c =
     let a = c .before .before .before .before .before .before .before .args in
     let l = c .before .before .before .before .loop in (
-      stop-at counted (a .class .now) (a .next .now) (a .s .now) (l .i) (l .i) (c .before .step .result) _ (l .inv .1) (search needs) (c .before .step .ensures)
+      stop-at counted (a .class .now) (a .next .now) (a .s .now) (l .i) (l .i) (c .before .step .result) _ (l .inv .1) (search needs)
+          (c .before .step .ensures)
           (c .if1 .taken),
       bytes (a .s .now) (λ (k : ℕ). c .before .before .shared-slice-known3 .given k .fits),
     )
@@ -44,7 +45,8 @@ loop-again c =
     let a = c .before .before .before .before .before .before .before .args in
     let l = c .before .before .before .before .loop in (
       search needs,
-      go-on counted (a .class .now) (a .next .now) (a .s .now) (l .i) (l .i) (c .before .step .result) _ (l .inv .1) (search needs) (c .before .step .ensures)
+      go-on counted (a .class .now) (a .next .now) (a .s .now) (l .i) (l .i) (c .before .step .result) _ (l .inv .1) (search needs)
+          (c .before .step .ensures)
           (c .if1 .left),
     )
 
@@ -55,7 +57,8 @@ returns-2 : tie.Need-returns-2 Inv-loop μ-loop
 returns-2 c =
     let a = c .before .before .before .before .before .before .args in
     let l = c .before .before .before .loop in (
-      stop-end counted (a .class .now) (a .next .now) (a .s .now) (l .i) (l .i) (c .before .look .result) _ (l .inv .1) (search needs) (search needs)
+      stop-end counted (a .class .now) (a .next .now) (a .s .now) (l .i) (l .i) (c .before .look .result) _ (l .inv .1) (search needs)
+          (search needs)
           (c .before .look .ensures) (c .if2 .taken),
       bytes (a .s .now) (λ (k : ℕ). c .before .before .before .before .shared-slice-known2 .given k .fits),
     )
@@ -64,7 +67,8 @@ returns-3 : tie.Need-returns-3 Inv-loop μ-loop
 returns-3 c =
     let a = c .before .before .before .before .before .before .args in
     let l = c .before .before .before .loop in (
-      fit-end counted (a .class .now) (a .next .now) (a .s .now) (l .i) (l .i) (c .before .look .result) _ (l .inv .1) (search needs) (search needs)
+      fit-end counted (a .class .now) (a .next .now) (a .s .now) (l .i) (l .i) (c .before .look .result) _ (l .inv .1) (search needs)
+          (search needs)
           (c .before .look .ensures) (c .if2 .left),
       bytes (a .s .now) (λ (k : ℕ). c .before .before .before .before .shared-slice-known2 .given k .fits),
     )

@@ -19,7 +19,8 @@ is-currency-requires c κs = search needs
 
 returns : tie.Need-returns
 returns c =
-    sym (capitals (c .before .before .before .before .before .before .before .args .s .now) (c .before .before .before .before .before .if1 .taken)
+    sym (capitals (c .before .before .before .before .before .before .before .args .s .now)
+    (c .before .before .before .before .before .if1 .taken)
     (sym (c .before .is-currency .ensures) ∙ c .if2 .taken))
 
 currency-form-requires : tie.Need-currency-form-requires

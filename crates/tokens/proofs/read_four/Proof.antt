@@ -27,13 +27,22 @@ four-digits-requires c κs = search needs
 
 cast-t13 : tie.Need-cast-t13
 cast-t13 c =
-    record { fits = omega (arith, c .four-digits .ensures, value (c .before .before .before .before .before .before .before .before .args .s .now) (c .before .before .before .before .before .before .before .before .pre), in-range (c .before .before .before .before .before .before .before .before .args .s .now) (code-fits (c .before .before .before .before .before .before .before .before .args .s .now) (c .before .before .before .before .before .before .before .before .pre) (sym (c .before .before .is-code .ensures) ∙ c .before .if1 .taken))) }
+    let s = c .before .before .before .before .before .before .before .before .args .s .now in
+    let l = c .before .before .before .before .before .before .before .before .pre in
+    let f = code-fits s l (sym (c .before .before .is-code .ensures) ∙ c .before .if1 .taken) in
+    record { fits = omega (arith, c .four-digits .ensures, value s l, in-range s f) }
 
 returns : tie.Need-returns
-returns c = read (c .before .before .before .before .before .before .before .before .args .s .now) (c .four-digits .result) (code-fits (c .before .before .before .before .before .before .before .before .args .s .now) (c .before .before .before .before .before .before .before .before .pre) (sym (c .before .before .is-code .ensures) ∙ c .before .if1 .taken)) (c .four-digits .ensures ∙ value (c .before .before .before .before .before .before .before .before .args .s .now) (c .before .before .before .before .before .before .before .before .pre))
+returns c =
+    let s = c .before .before .before .before .before .before .before .before .args .s .now in
+    let l = c .before .before .before .before .before .before .before .before .pre in
+    let f = code-fits s l (sym (c .before .before .is-code .ensures) ∙ c .before .if1 .taken) in
+    read s (c .four-digits .result) f (c .four-digits .ensures ∙ value s l)
 
 refused-requires : tie.Need-refused-requires
-refused-requires c κs = λ f. let e = sym (c .before .is-code .ensures ∙ code-passes (c .before .before .before .before .before .before .before .args .s .now) f) in let z : _≡_ {A = ℕ} 0 1 = cc (c .if1 .left) in omega arith
+refused-requires c κs = λ f.
+    let e = sym (c .before .is-code .ensures ∙ code-passes (c .before .before .before .before .before .before .before .args .s .now) f) in
+    let z : _≡_ {A = ℕ} 0 1 = cc (c .if1 .left) in omega arith
 
 returns-2 : tie.Need-returns-2
 returns-2 c = search needs

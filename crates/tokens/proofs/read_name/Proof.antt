@@ -19,7 +19,8 @@ loop-holds : tie.Need-loop-holds Inv-loop μ-loop
 loop-holds c = search needs
 
 returns : tie.Need-returns Inv-loop μ-loop
-returns c = let l = c .before .before .loop in too-long (c .before .before .before .args .s .now) (l .i) _ (l .inv .1) (search needs) (search needs)
+returns c = let l = c .before .before .loop in too-long (c .before .before .before .args .s .now) (l .i) _ (l .inv .1) (search needs)
+    (search needs)
 
 shared-slice-read-b : tie.Need-shared-slice-read-b Inv-loop μ-loop
 shared-slice-read-b c = search needs
@@ -44,7 +45,8 @@ loop-again : tie.Need-loop-again Inv-loop μ-loop
 loop-again c =
     let l = c .before .before .before .before .before .loop in (
       search needs,
-      next (c .before .before .before .before .before .before .args .s .now) (l .i) _ (l .inv .1) (search needs) (search needs) (search needs) (search needs),
+      next (c .before .before .before .before .before .before .args .s .now) (l .i) _ (l .inv .1) (search needs) (search needs)
+          (search needs) (search needs),
     )
 
 returns-4 : tie.Need-returns-4 Inv-loop μ-loop
@@ -54,7 +56,8 @@ returns-4 c =
 
 returns-5 : tie.Need-returns-5 Inv-loop μ-loop
 returns-5 c =
-    let l = c .before .before .loop in some (c .before .before .before .args .s .now) (l .i) _ (l .inv .1) (search needs) (search needs) (c .if4 .left)
+    let l = c .before .before .loop in some (c .before .before .before .args .s .now) (l .i) _ (l .inv .1) (search needs) (search needs)
+    (c .if4 .left)
 
 pub read-name-spec : {M : Type 1} → statement M
 read-name-spec =

@@ -15,33 +15,38 @@ Inv-loop hex s k n at ok₀ id₀ j₀ ok id j = (j ≤ n) × SoFar s (k + j) (r
 abbrev μ-loop : tie.MeasureT-loop
 μ-loop hex s k n at ok₀ id₀ j₀ ok id j = n - j
 
+-- the place of the turn's digits lies in the text
+near : (c : tie.In-loop Inv-loop μ-loop) → c .before .before .before .before .args .at + 2 * c .before .loop .j < 35
+near c = let a = c .before .before .before .before .args in spot (a .s .now) (a .k) (a .n) (a .at) (c .before .before .before .before .pre .1) (c .before .loop .j) (search needs)
+
 loop-holds : tie.Need-loop-holds Inv-loop μ-loop
-loop-holds c = 
-    (omega arith, subst (λ (m : ℕ). SoFar (c .before .before .args .s .now) m (c .before .before .args .q)) (sym (add-zero (c .before .before .args .k))) (c .before .before .pre .2))
+loop-holds c =
+    let a = c .before .before .args in
+    (omega arith, subst (λ (m : ℕ). SoFar (a .s .now) m (a .q)) (sym (add-zero (a .k))) (c .before .before .pre .2))
 
 mul-digit : tie.Need-mul-digit Inv-loop μ-loop
-mul-digit c = record { fits = omega (arith, spot (c .before .before .before .before .args .s .now) (c .before .before .before .before .args .k) (c .before .before .before .before .args .n) (c .before .before .before .before .args .at) (c .before .before .before .before .pre .1) (c .before .loop .j) (search needs)) }
+mul-digit c = omega (arith, near c)
 
 add-digit : tie.Need-add-digit Inv-loop μ-loop
-add-digit c = record { fits = omega (arith, spot (c .before .before .before .before .args .s .now) (c .before .before .before .before .args .k) (c .before .before .before .before .args .n) (c .before .before .before .before .args .at) (c .before .before .before .before .pre .1) (c .before .loop .j) (search needs)) }
+add-digit c = omega (arith, near c)
 
 shared-slice-read-digit : tie.Need-shared-slice-read-digit Inv-loop μ-loop
-shared-slice-read-digit c = omega (arith, spot (c .before .before .before .before .before .args .s .now) (c .before .before .before .before .before .args .k) (c .before .before .before .before .before .args .n) (c .before .before .before .before .before .args .at) (c .before .before .before .before .before .pre .1) (c .before .before .loop .j) (search needs), c .before .before .before .before .before .pre .1 .long)
+shared-slice-read-digit c = omega (arith, near (c .before), c .before .before .before .before .before .pre .1 .long)
 
 digit-requires : tie.Need-digit-requires Inv-loop μ-loop
 digit-requires c κs = search needs
 
 mul-digit-2 : tie.Need-mul-digit-2 Inv-loop μ-loop
-mul-digit-2 c = record { fits = omega (arith, spot (c .before .before .before .before .before .before .args .s .now) (c .before .before .before .before .before .before .args .k) (c .before .before .before .before .before .before .args .n) (c .before .before .before .before .before .before .args .at) (c .before .before .before .before .before .before .pre .1) (c .before .before .before .loop .j) (search needs)) }
+mul-digit-2 c = omega (arith, near (c .before .before))
 
 add-digit-2 : tie.Need-add-digit-2 Inv-loop μ-loop
-add-digit-2 c = record { fits = omega (arith, spot (c .before .before .before .before .before .before .args .s .now) (c .before .before .before .before .before .before .args .k) (c .before .before .before .before .before .before .args .n) (c .before .before .before .before .before .before .args .at) (c .before .before .before .before .before .before .pre .1) (c .before .before .before .loop .j) (search needs)) }
+add-digit-2 c = omega (arith, near (c .before .before))
 
 add-digit-3 : tie.Need-add-digit-3 Inv-loop μ-loop
-add-digit-3 c = record { fits = omega (arith, spot (c .before .before .before .before .before .before .args .s .now) (c .before .before .before .before .before .before .args .k) (c .before .before .before .before .before .before .args .n) (c .before .before .before .before .before .before .args .at) (c .before .before .before .before .before .before .pre .1) (c .before .before .before .loop .j) (search needs)) }
+add-digit-3 c = omega (arith, near (c .before .before))
 
 shared-slice-read-digit-2 : tie.Need-shared-slice-read-digit-2 Inv-loop μ-loop
-shared-slice-read-digit-2 c = omega (arith, spot (c .before .before .before .before .before .before .before .args .s .now) (c .before .before .before .before .before .before .before .args .k) (c .before .before .before .before .before .before .before .args .n) (c .before .before .before .before .before .before .before .args .at) (c .before .before .before .before .before .before .before .pre .1) (c .before .before .before .before .loop .j) (search needs), c .before .before .before .before .before .before .before .pre .1 .long)
+shared-slice-read-digit-2 c = omega (arith, near (c .before .before .before), c .before .before .before .before .before .before .before .pre .1 .long)
 
 digit-requires-2 : tie.Need-digit-requires-2 Inv-loop μ-loop
 digit-requires-2 c κs = search needs
@@ -53,7 +58,7 @@ add-id : tie.Need-add-id Inv-loop μ-loop
 add-id c = search needs
 
 add-id-2 : tie.Need-add-id-2 Inv-loop μ-loop
-add-id-2 c = record { fits = omega (arith, c .before .before .before .before .before .before .before .before .pre .1 .within) }
+add-id-2 c = omega (arith, c .before .before .before .before .before .before .before .before .pre .1 .within)
 
 array-write-id : tie.Need-array-write-id Inv-loop μ-loop
 array-write-id c = omega (arith, c .before .before .before .before .before .before .before .before .pre .1 .within)
@@ -65,18 +70,19 @@ loop-less : tie.Need-loop-less Inv-loop μ-loop
 loop-less c = search needs
 
 loop-again : tie.Need-loop-again Inv-loop μ-loop
-loop-again c = 
+loop-again c =
     let a = c .before .before .before .before .before .before .before .before .args in
     let l = c .before .before .before .before .before .loop in
     (omega arith,
-    step (a .s .now) (a .k) (a .n) (a .at) (c .before .before .before .before .before .before .before .before .pre .1) (l .j) (search needs) (c .before .before .digit .result) (c .digit2 .result)
-    (c .before .before .digit .ensures) (c .digit2 .ensures) (l .ok) (l .id) (l .inv .1))
+    step (a .s .now) (a .k) (a .n) (a .at) (c .before .before .before .before .before .before .before .before .pre .1) (l .j) (search needs)
+    (c .before .before .digit .result) (c .digit2 .result) (c .before .before .digit .ensures) (c .digit2 .ensures) (l .ok) (l .id) (l .inv .1))
 
 returns : tie.Need-returns Inv-loop μ-loop
-returns c = 
+returns c =
+    let a = c .before .before .before .before .args in
     let l = c .before .loop in
-    let e : l .j ≡ c .before .before .before .before .args .n = omega arith in
-    subst (λ (m : ℕ). SoFar (c .before .before .before .before .args .s .now) (c .before .before .before .before .args .k + m) (record { ok = l .ok; id = l .id })) e (l .inv .1)
+    let e : l .j ≡ a .n = omega arith in
+    subst (λ (m : ℕ). SoFar (a .s .now) (a .k + m) (record { ok = l .ok; id = l .id })) e (l .inv .1)
 
 pub group-spec : {M : Type 1} → statement M
 group-spec =

@@ -18,7 +18,9 @@ same-length c = search needs
 returns : tie.Need-returns
 returns c =
     let b = c .before .before .before .before .before .before .before .before .before .before .args .id .now in
-    behind (c .before .before .before .before .before .before .before .before .before .before .args .out .now) _ _ 18 23 (dashedPairs 8 2 b) (dashedPairs 10 6 b) (c .before .before .before .before .before .before .put-dashed .ensures) (omega (arith, back-long b))
+    behind (c .before .before .before .before .before .before .before .before .before .before .args .out .now) _ _ 18 23
+    (dashedPairs 8 2 b) (dashedPairs 10 6 b) (c .before .before .before .before .before .before .put-dashed .ensures) (omega
+    (arith, back-long b))
     (c .before .before .put-dashed2 .ensures)
 
 pub put-back-spec : {M : Type 1} → statement M

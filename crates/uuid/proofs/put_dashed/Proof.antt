@@ -1,6 +1,5 @@
 -- `uuid::put_dashed` meets its contract: a store, and the pairs behind it.
 use mathlib.Core.Path.{ap, _∙_}
-use mathlib.Core.List.{List}
 use Prim.Native.Nat.{ℕ}
 use native.Mathlib.Numerals.{add-one}
 use lib.ListN.{length, set, length-set}
@@ -25,7 +24,8 @@ same-length c = ap length (c .before .before .put-pairs .ensures) ∙ simp (leng
 returns : tie.Need-returns
 returns c =
     let a = c .before .before .before .before .before .before .args in
-    c .before .before .put-pairs .ensures ∙ ap (λ (n : ℕ). sets (set (a .out .now) (a .at) 45) n (pairsOf (a .k) (a .n) (a .id .now))) (add-one (a .at))
+    c .before .before .put-pairs .ensures ∙ ap (λ (n : ℕ). sets (set (a .out .now) (a .at) 45) n (pairsOf (a .k) (a .n) (a .id .now)))
+    (add-one (a .at))
 
 pub put-dashed-spec : {M : Type 1} → statement M
 put-dashed-spec =

@@ -1,6 +1,4 @@
 -- `uuid::put_front` meets its contract: three groups, each behind the one before.
-use mathlib.Core.Path.{refl, sym}
-use Prim.Native.Nat.{_+_}
 use native.Mathlib.Omega.{arith}
 use mathlib.Core.List.{_++_}
 use Rattle.uuid.specs.Quick.{pairsOf, dashedPairs}
@@ -23,11 +21,14 @@ same-length c = search needs
 
 returns : tie.Need-returns
 returns c =
-    let b = c .before .before .before .before .before .before .before .before .before .before .before .before .before .before .args .id .now in
-    let old = c .before .before .before .before .before .before .before .before .before .before .before .before .before .before .args .out .now in
+    let b = c .before .before .before .before .before .before .before .before .before .before .before .before .before .before .args .id
+    .now in
+    let old = c .before .before .before .before .before .before .before .before .before .before .before .before .before .before .args
+    .out .now in
     let l = front-long b in
     behind old _ _ 0 13 (pairsOf 0 4 b ++ dashedPairs 4 2 b) (dashedPairs 6 2 b)
-    (behind old _ _ 0 8 (pairsOf 0 4 b) (dashedPairs 4 2 b) (c .before .before .before .before .before .before .before .before .before .before .put-pairs .ensures) (omega (arith, l .0)) (c .before .before .before .before .before .before .put-dashed .ensures))
+    (behind old _ _ 0 8 (pairsOf 0 4 b) (dashedPairs 4 2 b) (c .before .before .before .before .before .before .before .before .before
+    .before .put-pairs .ensures) (omega (arith, l .0)) (c .before .before .before .before .before .before .put-dashed .ensures))
     (omega (arith, l .1)) (c .before .before .put-dashed2 .ensures)
 
 pub put-front-spec : {M : Type 1} → statement M

@@ -27,9 +27,10 @@ shared-slice-read-x : tie.Need-shared-slice-read-x Inv-loop μ-loop
 shared-slice-read-x c = search needs
 
 hex-char-requires : tie.Need-hex-char-requires Inv-loop μ-loop
-hex-char-requires c κs =
-    (c .before .before .before .before .before .pre .0,
-    omega (arith, c .shared-slice-known2 .given (c .before .before .before .before .before .args .k + c .before .before .loop .j)))
+hex-char-requires c κs = (
+  c .before .before .before .before .before .pre .0,
+  omega (arith, c .shared-slice-known2 .given (c .before .before .before .before .before .args .k + c .before .before .loop .j)),
+)
 
 mul-out : tie.Need-mul-out Inv-loop μ-loop
 mul-out c = search needs
@@ -64,10 +65,12 @@ loop-less c = search needs
 loop-again : tie.Need-loop-again Inv-loop μ-loop
 loop-again c =
     let a = c .before .before .before .before .before .before .before .args in
-    let l = c .before .before .before .before .loop in
-    (omega arith, simp length-set (l .inv .1),
-    pair-step (a .id .now) (a .out .now) (l .out) (a .k) (l .j) (a .at) (c .before .hex-char .result) (c .hex-char2 .result) (l .inv .2)
-    (c .before .hex-char .ensures) (c .hex-char2 .ensures))
+    let l = c .before .before .before .before .loop in (
+      omega arith,
+      simp length-set (l .inv .1),
+      pair-step (a .id .now) (a .out .now) (l .out) (a .k) (l .j) (a .at) (c .before .hex-char .result) (c .hex-char2 .result) (l .inv .2)
+          (c .before .hex-char .ensures) (c .hex-char2 .ensures),
+    )
 
 same-length : tie.Need-same-length Inv-loop μ-loop
 same-length c = c .before .loop .inv .1

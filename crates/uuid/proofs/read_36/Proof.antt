@@ -14,13 +14,16 @@ marks-requires c κs = search needs
 returns : tie.Need-returns
 returns c =
     let s = c .before .before .before .before .before .args .s .now in
-    quick-fits s (c .before .before .before .before .before .pre) (c .before .before .before .groups .result) (c .before .before .before .groups .ensures)
-    (c .before .marks .result) (c .before .marks .ensures) (λ (i : ℕ). c .before .before .before .before .shared-slice-known .given i .fits) (c .if1 .taken)
+    quick-fits s (c .before .before .before .before .before .pre) (c .before .before .before .groups .result)
+    (c .before .before .before .groups .ensures)
+    (c .before .marks .result) (c .before .marks .ensures) (λ (i : ℕ). c .before .before .before .before .shared-slice-known .given i
+    .fits) (c .if1 .taken)
 
 refused-requires : tie.Need-refused-requires
 refused-requires c κs =
     let s = c .before .before .before .before .before .args .s .now in
-    quick-stops s (c .before .before .before .before .before .pre) (c .before .before .before .groups .result) (c .before .before .before .groups .ensures)
+    quick-stops s (c .before .before .before .before .before .pre) (c .before .before .before .groups .result)
+    (c .before .before .before .groups .ensures)
     (c .before .marks .result) (c .before .marks .ensures) (c .if1 .left)
 
 returns-2 : tie.Need-returns-2

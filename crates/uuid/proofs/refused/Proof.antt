@@ -10,7 +10,8 @@ id-form-requires c κs = search needs
 
 returns : tie.Need-returns
 returns c =
-    read-stops (c .before .before .args .s .now) (c .id-form .result) (c .id-form .ensures) (λ f. c .before .before .pre (sym (c .id-form .ensures) ∙ f))
+    read-stops (c .before .before .args .s .now) (c .id-form .result) (c .id-form .ensures) (λ f. c .before .before .pre (sym
+    (c .id-form .ensures) ∙ f))
 
 pub refused-spec : {M : Type 1} → statement M
 refused-spec = tie.close (tie.spec id-form-requires returns)

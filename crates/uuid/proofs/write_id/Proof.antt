@@ -17,8 +17,11 @@ returns c =
 
 put-text-requires : tie.Need-put-text-requires
 put-text-requires c κs =
-    let f = c .before .before .before .in-form in
-    (in-form-long (c .before .before .before .before .before .before .args .id .now) (sym (f .ensures) ∙ c .before .before .if1 .taken), c .before .if2 .left)
+    let f = c .before .before .before .in-form in (
+      in-form-long (c .before .before .before .before .before .before .args .id .now) (sym (f .ensures)
+          ∙ c .before .before .if1 .taken),
+      c .before .if2 .left,
+    )
 
 same-length : tie.Need-same-length
 same-length c = search needs
@@ -26,10 +29,11 @@ same-length c = search needs
 returns-2 : tie.Need-returns-2
 returns-2 c =
     let a = c .before .before .before .before .before .before .before .before .before .args in
-    let f = c .before .before .before .before .before .before .in-form in
-    (written (a .id .now) (length (a .out .now)) (sym (f .ensures) ∙ c .before .before .before .before .before .if1 .taken)
-    (c .before .before .before .before .if2 .left),
-    c .before .before .put-text .ensures ∙ text-put (a .id .now) (a .out .now) (c .before .before .before .before .if2 .left))
+    let f = c .before .before .before .before .before .before .in-form in (
+      written (a .id .now) (length (a .out .now)) (sym (f .ensures) ∙ c .before .before .before .before .before .if1 .taken)
+          (c .before .before .before .before .if2 .left),
+      c .before .before .put-text .ensures ∙ text-put (a .id .now) (a .out .now) (c .before .before .before .before .if2 .left),
+    )
 
 returns-3 : tie.Need-returns-3
 returns-3 c =

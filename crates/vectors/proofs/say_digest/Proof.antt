@@ -1,8 +1,7 @@
 -- `vectors::say_digest` is safe and ends: a byte with each turn.
-use mathlib.Core.Path.{_≡_, refl, _∙_}
+use mathlib.Core.Path.{_≡_}
 use Prim.Native.Nat.{_-_, _≤_}
-use native.Mathlib.Omega.{arith}
-use lib.ListN.{length, length-set}
+use lib.ListN.{length}
 use borrow.Author.Needs.{needs}
 use Rattle.vectors.proofs.say_digest.Statement.{statement}
 use Rattle.vectors.proofs.say_digest.Tie as tie

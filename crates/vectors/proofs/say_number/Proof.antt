@@ -1,8 +1,7 @@
 -- `vectors::say_number` is safe and ends: the place falls with each digit.
-use mathlib.Core.Path.{_≡_, refl, _∙_}
-use Prim.Native.Nat.{_-_, _≤_}
-use native.Mathlib.Omega.{arith}
-use lib.ListN.{length, length-set}
+use mathlib.Core.Path.{_≡_}
+use Prim.Native.Nat.{_≤_}
+use lib.ListN.{length}
 use borrow.Author.Needs.{needs}
 use Rattle.vectors.proofs.say_number.Statement.{statement}
 use Rattle.vectors.proofs.say_number.Tie as tie
