@@ -10,14 +10,12 @@ use lib.Dec.{ltb}
 use lib.ListN.{length}
 use Rattle.form.specs.Regex.{judge}
 use Rattle.form.specs.Listings.{amountForm}
-use Rattle.form.specs.Writing.{number, bufferAfter}
+use Rattle.form.specs.Writing.{number}
 use Rattle.form.specs.declared.Verdict.{Verdict}
 use Rattle.form.specs.declared.Verdict.the-variants.{Fits, Stops}
-use Rattle.form.specs.declared.Written.{Written}
 use Rattle.form.specs.declared.Written.the-variants.{Length, NoRoom}
 use Rattle.amount.specs.Amount.{readAmount, answer, amountOf, tenThousandths, amountText, writeAmount}
 use Rattle.amount.specs.declared.Amount.{Amount}
-use Rattle.amount.specs.declared.AmountRead.{AmountRead}
 use Rattle.amount.specs.declared.AmountRead.the-variants.{Value, Refused}
 use Rattle.amount.proofs.Round.{read-back}
 use Rattle.amount.proofs.Unique.{spelled, refusal}
@@ -63,13 +61,3 @@ refused a room = (
     fits-in : (b : Bool) → number (cond b NoRoom (Length (length (amountText a)))) ≡ 1 → ⊥
     fits-in true e = omega arith
     fits-in false e = omega arith
-
--- two answers that meet the reader's promise are equal, and so are two answers and buffers that meet the writer's
-pub read-settled : (s : List ℕ) (r r′ : AmountRead) → r ≡ readAmount s → r′ ≡ readAmount s → r ≡ r′
-read-settled s r r′ e f = e ∙ sym f
-
-pub write-settled : (a : Amount) (old out out′ : List ℕ) (r r′ : Written) →
-    (r ≡ writeAmount a (length old)) × (out ≡ bufferAfter r (amountText a) old) →
-    (r′ ≡ writeAmount a (length old)) × (out′ ≡ bufferAfter r′ (amountText a) old) → (r ≡ r′) × (out ≡ out′)
-write-settled a old out out′ r r′ (e, f) (g, h) =
-    let same = e ∙ sym g in (same, f ∙ ap (λ (w : Written). bufferAfter w (amountText a) old) same ∙ sym h)

@@ -4,3 +4,4 @@ pub mod Steps
 pub mod Words
 pub mod Judged
 pub mod Places
+pub mod Settled

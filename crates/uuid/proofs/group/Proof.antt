@@ -17,7 +17,8 @@ abbrev μ-loop : tie.MeasureT-loop
 
 -- the place of the turn's digits lies in the text
 near : (c : tie.In-loop Inv-loop μ-loop) → c .before .before .before .before .args .at + 2 * c .before .loop .j < 35
-near c = let a = c .before .before .before .before .args in spot (a .s .now) (a .k) (a .n) (a .at) (c .before .before .before .before .pre .1) (c .before .loop .j) (search needs)
+near c = let a = c .before .before .before .before .args in spot (a .s .now) (a .k) (a .n) (a .at)
+    (c .before .before .before .before .pre .1) (c .before .loop .j) (search needs)
 
 loop-holds : tie.Need-loop-holds Inv-loop μ-loop
 loop-holds c =
@@ -46,7 +47,8 @@ add-digit-3 : tie.Need-add-digit-3 Inv-loop μ-loop
 add-digit-3 c = omega (arith, near (c .before .before))
 
 shared-slice-read-digit-2 : tie.Need-shared-slice-read-digit-2 Inv-loop μ-loop
-shared-slice-read-digit-2 c = omega (arith, near (c .before .before .before), c .before .before .before .before .before .before .before .pre .1 .long)
+shared-slice-read-digit-2 c = omega (arith, near (c .before .before .before), c .before .before .before .before .before .before .before
+    .pre .1 .long)
 
 digit-requires-2 : tie.Need-digit-requires-2 Inv-loop μ-loop
 digit-requires-2 c κs = search needs
@@ -75,7 +77,8 @@ loop-again c =
     let l = c .before .before .before .before .before .loop in
     (omega arith,
     step (a .s .now) (a .k) (a .n) (a .at) (c .before .before .before .before .before .before .before .before .pre .1) (l .j) (search needs)
-    (c .before .before .digit .result) (c .digit2 .result) (c .before .before .digit .ensures) (c .digit2 .ensures) (l .ok) (l .id) (l .inv .1))
+    (c .before .before .digit .result) (c .digit2 .result) (c .before .before .digit .ensures) (c .digit2 .ensures) (l .ok) (l .id)
+        (l .inv .1))
 
 returns : tie.Need-returns Inv-loop μ-loop
 returns c =
