@@ -14,7 +14,7 @@ use Rattle.octets.specs.Bytes.{Bytes}
 use Rattle.octets.proofs.Lists.{default}
 use Rattle.octets.proofs.Computed.{both, both-left, both-right, below, below-at, every, every-at}
 use Rattle.form.specs.Regex.{Re, none, empty, range, seq, alt, upto, alive, nullable, deriv, isNone, judgeFrom, judge}
-use Rattle.form.specs.Machine.{entry, named, counted, machine}
+use Rattle.form.specs.Machine.{entry, machine}
 use Rattle.form.specs.declared.Verdict.{Verdict}
 use Rattle.form.specs.declared.Verdict.the-variants.{Fits, Stops}
 use Rattle.form.proofs.Same.{same, same-eq}
@@ -82,7 +82,7 @@ module _ (class next : List ℕ) (rs : List Re) (all : length class ≡ 256) (ok
   abbrev at-byte : ℕ → ℕ → ℕ → Bool
   at-byte q c k = goesAt rs (deriv c (getD rs q none)) (entry next q k)
 
-  pub law : (s : List ℕ) → Bytes s → (n q : ℕ) → q < length rs → machine named class next n q s ≡ judgeFrom (getD rs q none) n s
+  pub law : (s : List ℕ) → Bytes s → (n q : ℕ) → q < length rs → machine class next n q s ≡ judgeFrom (getD rs q none) n s
   unfolding machine
   law [] b n q h =
       end-law (eqb (entry next q 0) 255) (nullable (getD rs q none)) n
@@ -94,57 +94,13 @@ module _ (class next : List ℕ) (rs : List Re) (all : length class ≡ 256) (ok
       (law cs (b .1) (suc n) (entry next q (getD class c 0)))
 
 -- where the words after the empty one lead to the other states, the table judges as the form does
-pub judges : (r : Re) (words : List (List ℕ)) (v : Verdict) (class next s : List ℕ) → v ≡ machine named class next 0 0 s → Bytes s →
+pub judges : (r : Re) (words : List (List ℕ)) (v : Verdict) (class next s : List ℕ) → v ≡ machine class next 0 0 s → Bytes s →
     T (goes r class next ([] ∷ words)) → v ≡ judge r s
 judges r words v class next s e b ok =
     let rs = map (left r) ([] ∷ words) in
     let x = eqb (length class) 256 in
     e ∙ law class next rs (eqb→eq (length class) 256 (both-left x (rows class rs rs next) ok)) (both-right x (rows class rs rs next) ok)
     s b 0 0 (omega arith)
-
--- a table of m states in which each leads to the next only: they count the bytes passed
-abbrev onlyNext : ℕ → ℕ → ℕ → Bool
-onlyNext m q t = cond (eqb t 255) true (both (eqb t (q + 1)) (ltb (q + 1) m))
-
-abbrev straightRow : List ℕ → ℕ → ℕ → List ℕ → Bool
-straightRow class m q line = every (λ c k. onlyNext m q (getD line k 255)) 0 class
-
-abbrev pub straightly : List ℕ → List ℕ → ℕ → Bool
-straightly class next m = both (eqb (length class) 256) (below m (λ q. straightRow class m q (drop (q * 32) next)))
-
-straight-step : (x : Bool) (m n q t : ℕ) (v : Verdict) (f : ℕ → Verdict) → T (cond x true (both (eqb t (q + 1)) (ltb (q + 1) m))) →
-    (q + 1 < m → v ≡ f (q + 1)) → cond x (Stops n) v ≡ cond x (Stops n) (f t)
-straight-step true m n q t v f h k = refl
-straight-step false m n q t v f h k =
-    k (ltb→lt (q + 1) m (both-right (eqb t (q + 1)) (ltb (q + 1) m) h))
-    ∙ ap f (sym (eqb→eq t (q + 1) (both-left (eqb t (q + 1)) (ltb (q + 1) m) h)))
-
-pub straight : (class next : List ℕ) (m : ℕ) → T (straightly class next m) → (s : List ℕ) → Bytes s → (n q : ℕ) → q < m →
-    machine counted class next n q s ≡ machine named class next n q s
-unfolding machine
-straight class next m ok [] b n q h = refl
-straight class next m ok (c ∷ cs) b n q h =
-    straight-step (eqb (entry next q (getD class c 0)) 255) m n q (entry next q (getD class c 0)) (machine counted class next (suc n)
-    (q + 1) cs)
-    (λ x. machine named class next (suc n) x cs)
-    (every-at (λ x k. onlyNext m q (entry next q k)) class
-    (below-at m (λ y. straightRow class m y (drop (y * 32) next)) (both-right (eqb (length class) 256) _ ok) q h) c
-    (omega (
-      arith,
-      b .0,
-      eqb→eq (length class) 256 (both-left (eqb (length class) 256) (below m (λ y. straightRow class m y (drop
-          (y * 32) next))) ok),
-    )))
-    (straight class next m ok cs (b .1) (suc n) (q + 1))
-
-pub judges-straight : (r : Re) (words : List (List ℕ)) (v : Verdict) (class next s : List ℕ)
-    → v ≡ machine counted class next 0 0 s → Bytes s →
-    T (both (straightly class next (length ([] ∷ words))) (goes r class next ([] ∷ words))) → v ≡ judge r s
-judges-straight r words v class next s e b ok =
-    let x = straightly class next (length ([] ∷ words)) in
-    let y = goes r class next ([] ∷ words) in
-    judges r words v class next s (e ∙ straight class next (length ([] ∷ words)) (both-left x y ok) s b 0 0 (omega arith)) b
-    (both-right x y ok)
 
 -- an entry, read at its place in the whole table
 pub entry-in : (next : List ℕ) (q k : ℕ) → q * 32 + k < length next → getD next (q * 32 + k) 0 ≡ entry next q k
@@ -154,24 +110,24 @@ pub entry-past : (next : List ℕ) (q k : ℕ) → length next ≤ q * 32 + k �
 entry-past next q k h = sym (getD-drop (q * 32) next k 255 ∙ List·getD-eq-default next 255 h)
 
 -- what the loops step by: the verdict on the bytes to come is the verdict on the whole, and the entry t decides
-module _ (to : ℕ → ℕ → ℕ) (class next s : List ℕ) (i q t : ℕ) (whole : Verdict) (inv : machine to class next i q (drop i s) ≡ whole) where
+module _ (class next s : List ℕ) (i q t : ℕ) (whole : Verdict) (inv : machine class next i q (drop i s) ≡ whole) where
   module _ (h : i < length s) (e : t ≡ entry next q (getD class (getD s i 0) 0)) where
-    turn : machine to class next i q (drop i s) ≡ cond (eqb t 255) (Stops i) (machine to class next (i + 1) (to q t) (drop (i + 1) s))
+    turn : machine class next i q (drop i s) ≡ cond (eqb t 255) (Stops i) (machine class next (i + 1) t (drop (i + 1) s))
     unfolding machine
     turn = rw (drop-cons s i 0 h, add-one, e)
 
     pub stop-at : t ≡ 255 → Stops i ≡ whole
     stop-at f = sym (turn ∙ simp (eq-eqb t 255 f)) ∙ inv
 
-    pub go-on : (t ≡ 255 → ⊥) → machine to class next (i + 1) (to q t) (drop (i + 1) s) ≡ whole
+    pub go-on : (t ≡ 255 → ⊥) → machine class next (i + 1) t (drop (i + 1) s) ≡ whole
     go-on f = sym (turn ∙ simp (ne-eqb t 255 f)) ∙ inv
 
   module _ (h : i ≤ length s) (k : length s ≤ i) (e : t ≡ entry next q 0) where
-    ends : machine to class next i q (drop i s) ≡ cond (eqb t 255) (Stops i) Fits
+    ends : machine class next i q (drop i s) ≡ cond (eqb t 255) (Stops i) Fits
     unfolding machine
     ends =
         let l : i ≡ length s = omega arith in
-        ap (λ (z : List ℕ). machine to class next i q z) (ap (λ (x : ℕ). drop x s) l ∙ drop-length s) ∙ rw e refl
+        ap (λ (z : List ℕ). machine class next i q z) (ap (λ (x : ℕ). drop x s) l ∙ drop-length s) ∙ rw e refl
 
     pub stop-end : t ≡ 255 → Stops i ≡ whole
     stop-end f = sym (ends ∙ simp (eq-eqb t 255 f)) ∙ inv

@@ -1,6 +1,6 @@
 -- Judging by tables: a class for each byte, and for each state a row of 32 numbers, the end of the text first and then the classes;
 -- 255 stops.
-use Prim.Native.Nat.{ℕ, suc, _+_, _*_}
+use Prim.Native.Nat.{ℕ, suc, _*_}
 use mathlib.Core.List.{List, [], _∷_}
 use mathlib.Core.Bool.{cond}
 use lib.Dec.{eqb}
@@ -12,15 +12,8 @@ use Rattle.form.specs.declared.Verdict.the-variants.{Fits, Stops}
 abbrev pub entry : List ℕ → ℕ → ℕ → ℕ
 entry next q k = getD (drop (q * 32) next) k 255
 
--- the state that a step leads to: the one that the table names, or, where the states count the bytes passed, the next
-abbrev pub named : ℕ → ℕ → ℕ
-named q t = t
-
-abbrev pub counted : ℕ → ℕ → ℕ
-counted q t = q + 1
-
 -- in the state q after n bytes, with these bytes to come
-unfoldable pub machine : (ℕ → ℕ → ℕ) → List ℕ → List ℕ → ℕ → ℕ → List ℕ → Verdict
-machine to class next n q [] = cond (eqb (entry next q 0) 255) (Stops n) Fits
-machine to class next n q (c ∷ cs) =
-    cond (eqb (entry next q (getD class c 0)) 255) (Stops n) (machine to class next (suc n) (to q (entry next q (getD class c 0))) cs)
+unfoldable pub machine : List ℕ → List ℕ → ℕ → ℕ → List ℕ → Verdict
+machine class next n q [] = cond (eqb (entry next q 0) 255) (Stops n) Fits
+machine class next n q (c ∷ cs) =
+    cond (eqb (entry next q (getD class c 0)) 255) (Stops n) (machine class next (suc n) (entry next q (getD class c 0)) cs)

@@ -1,4 +1,5 @@
-// The published forms of the field texts, judged by tables: whether a text is of the form and, if not, at which byte no text of the form goes on.
+// The published forms of the field texts, judged by tables: whether a text is of the form and, if not, at which byte no text of
+// the form goes on.
 mod tables;
 
 ghost use mathlib.Core.Path.{_≡_};
@@ -6,7 +7,7 @@ ghost use lib.ListN.{getD};
 ghost use Rattle.octets.specs.Bytes.{Bytes};
 ghost use Rattle.form.specs.Regex.{judge};
 ghost use Rattle.form.specs.Listings.{dateTimeForm, idForm, codeForm, currencyForm};
-ghost use Rattle.form.specs.Machine.{entry, named, counted, machine};
+ghost use Rattle.form.specs.Machine.{entry, machine};
 
 // What a form says of a text: it is of the form, or no text of the form goes on at this offset (the length, where the text stops too soon).
 pub enum Verdict {
@@ -48,7 +49,7 @@ fn step(class: &[u8; 256], next: &[u8], q: usize, b: u8) -> u8
 
 // Goes from state to state.
 fn run(class: &[u8; 256], next: &[u8], s: &[u8]) -> Verdict
-    ensures { λ r. ⌜ (r ≡ machine named (now (class .entry)) (now (next .entry)) 0 0 (now (s .entry))) × Bytes (now (s .entry)) ⌝ }
+    ensures { λ r. ⌜ (r ≡ machine (now (class .entry)) (now (next .entry)) 0 0 (now (s .entry))) × Bytes (now (s .entry)) ⌝ }
 {
     let mut q: usize = 0;
     let mut i: usize = 0;
@@ -67,25 +68,6 @@ fn run(class: &[u8; 256], next: &[u8], s: &[u8]) -> Verdict
     Verdict::Fits
 }
 
-// The same where each state is the count of bytes passed, so that no step waits for the one before.
-fn run_straight(class: &[u8; 256], next: &[u8], s: &[u8]) -> Verdict
-    ensures { λ r. ⌜ (r ≡ machine counted (now (class .entry)) (now (next .entry)) 0 0 (now (s .entry))) × Bytes (now (s .entry)) ⌝ }
-{
-    let mut i: usize = 0;
-    while i < s.len() {
-        let t = step(class, next, i, s[i]);
-        if t == 255 {
-            return Verdict::Stops(i);
-        }
-        i += 1;
-    }
-    let end = look(next, i, 0);
-    if end == 255 {
-        return Verdict::Stops(i);
-    }
-    Verdict::Fits
-}
-
 // 001's listing 12.
 pub fn datetime_form(s: &[u8]) -> Verdict
     ensures { λ r. ⌜ r ≡ judge dateTimeForm (now (s .entry)) ⌝ }
@@ -97,19 +79,19 @@ pub fn datetime_form(s: &[u8]) -> Verdict
 pub fn id_form(s: &[u8]) -> Verdict
     ensures { λ r. ⌜ r ≡ judge idForm (now (s .entry)) ⌝ }
 {
-    run_straight(&tables::CLASS, &tables::ID, s)
+    run(&tables::CLASS, &tables::ID, s)
 }
 
 // 000's listing 18.
 pub fn code_form(s: &[u8]) -> Verdict
     ensures { λ r. ⌜ r ≡ judge codeForm (now (s .entry)) ⌝ }
 {
-    run_straight(&tables::CLASS, &tables::CODE, s)
+    run(&tables::CLASS, &tables::CODE, s)
 }
 
 // Three letters A-Z.
 pub fn currency_form(s: &[u8]) -> Verdict
     ensures { λ r. ⌜ r ≡ judge currencyForm (now (s .entry)) ⌝ }
 {
-    run_straight(&tables::CLASS, &tables::CURRENCY, s)
+    run(&tables::CLASS, &tables::CURRENCY, s)
 }

@@ -1,5 +1,5 @@
-// The readers, the writers and the hash as C calls, for the tests and benchmarks outside Rattle. Proved safe and ending: what they hand over is
-// compared there, byte for byte, with a second implementation.
+// The readers, the writers and the hash as C calls, for the tests and benchmarks outside Rattle. Proved safe and ending: what they
+// hand over is compared there, byte for byte, with a second implementation.
 use amount::Amount;
 use amount::AmountRead;
 use datetime::InstantRead;

@@ -29,8 +29,22 @@ use Rattle.form.proofs.Meaning.{fits}
 use Rattle.form.proofs.Same.{same}
 use Rattle.form.proofs.Steps.{left, leads, Ends, on, is-true}
 use Rattle.uuid.specs.declared.IdRead.{IdRead}
-use Rattle.uuid.specs.Id.{dashBefore, placeOf, hexValue, hexChar, byteAt, idOf, answer, readId, pairText, byteText, textBefore,
-    idText, inForm, writeId}
+use Rattle.uuid.specs.Id.{
+  dashBefore,
+  placeOf,
+  hexValue,
+  hexChar,
+  byteAt,
+  idOf,
+  answer,
+  readId,
+  pairText,
+  byteText,
+  textBefore,
+  idText,
+  inForm,
+  writeId,
+}
 use Rattle.uuid.proofs.Hex.{char-value, value-small, value-char, hex-byte}
 use Rattle.uuid.proofs.WellMade.{sofar, versionRule, variantRule, WellMade, from-listing}
 use Rattle.uuid.proofs.Spelled.{step}

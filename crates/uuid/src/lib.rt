@@ -113,6 +113,7 @@ fn read_36(s: &[u8]) -> IdRead
     refused(s)
 }
 
+// The bytes that the text says.
 pub fn read_id(s: &[u8]) -> IdRead
     ensures { λ r. ⌜ r ≡ readId (now (s .entry)) ⌝ }
 {
@@ -193,8 +194,10 @@ fn in_form(id: &[u8]) -> bool
     false
 }
 
+// The text of 16 bytes in form, into a lent buffer.
 pub fn write_id(id: &[u8], out: &mut [u8]) -> Written
-    ensures { λ r. ⌜ (r ≡ writeId (now (id .entry)) (length (now (out .entry)))) × (now (out .exit) ≡ bufferAfter r (idText (now (id .entry))) (now (out .entry))) ⌝ }
+    ensures { λ r. ⌜ (r ≡ writeId (now (id .entry)) (length (now (out .entry))))
+        × (now (out .exit) ≡ bufferAfter r (idText (now (id .entry))) (now (out .entry))) ⌝ }
 {
     if in_form(id) {
         if out.len() < 36 {

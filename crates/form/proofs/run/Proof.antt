@@ -4,13 +4,13 @@ use Prim.Native.Nat.{ℕ, _-_, _≤_}
 use lib.ListN.{length, drop}
 use borrow.Author.Needs.{needs}
 use Rattle.octets.proofs.Lists.{bytes}
-use Rattle.form.specs.Machine.{named, machine}
+use Rattle.form.specs.Machine.{machine}
 use Rattle.form.proofs.Judged.{stop-at, go-on, stop-end, fit-end}
 use Rattle.form.proofs.run.Statement.{statement}
 use Rattle.form.proofs.run.Tie as tie
 
 abbrev Inv-loop : tie.InvT-loop
-Inv-loop class next s q₀ i₀ q i = (i ≤ length s) × (machine named class next i q (drop i s) ≡ machine named class next 0 0 s)
+Inv-loop class next s q₀ i₀ q i = (i ≤ length s) × (machine class next i q (drop i s) ≡ machine class next 0 0 s)
 
 abbrev μ-loop : tie.MeasureT-loop
 μ-loop class next s q₀ i₀ q i = length s - i
@@ -28,7 +28,7 @@ returns : tie.Need-returns Inv-loop μ-loop
 returns c =
     let a = c .before .before .before .before .before .before .before .args in
     let l = c .before .before .before .before .loop in (
-      stop-at named (a .class .now) (a .next .now) (a .s .now) (l .i) (l .q) (c .before .step .result) _ (l .inv .1) (search needs)
+      stop-at (a .class .now) (a .next .now) (a .s .now) (l .i) (l .q) (c .before .step .result) _ (l .inv .1) (search needs)
           (c .before .step .ensures)
           (c .if1 .taken),
       bytes (a .s .now) (λ (k : ℕ). c .before .before .shared-slice-known3 .given k .fits),
@@ -48,7 +48,7 @@ loop-again c =
     let a = c .before .before .before .before .before .before .before .args in
     let l = c .before .before .before .before .loop in (
       search needs,
-      go-on named (a .class .now) (a .next .now) (a .s .now) (l .i) (l .q) (c .before .step .result) _ (l .inv .1) (search needs)
+      go-on (a .class .now) (a .next .now) (a .s .now) (l .i) (l .q) (c .before .step .result) _ (l .inv .1) (search needs)
           (c .before .step .ensures)
           (c .if1 .left),
     )
@@ -60,7 +60,7 @@ returns-2 : tie.Need-returns-2 Inv-loop μ-loop
 returns-2 c =
     let a = c .before .before .before .before .before .before .args in
     let l = c .before .before .before .loop in (
-      stop-end named (a .class .now) (a .next .now) (a .s .now) (l .i) (l .q) (c .before .look .result) _ (l .inv .1) (search needs)
+      stop-end (a .class .now) (a .next .now) (a .s .now) (l .i) (l .q) (c .before .look .result) _ (l .inv .1) (search needs)
           (search needs)
           (c .before .look .ensures) (c .if2 .taken),
       bytes (a .s .now) (λ (k : ℕ). c .before .before .before .before .shared-slice-known2 .given k .fits),
@@ -70,7 +70,7 @@ returns-3 : tie.Need-returns-3 Inv-loop μ-loop
 returns-3 c =
     let a = c .before .before .before .before .before .before .args in
     let l = c .before .before .before .loop in (
-      fit-end named (a .class .now) (a .next .now) (a .s .now) (l .i) (l .q) (c .before .look .result) _ (l .inv .1) (search needs)
+      fit-end (a .class .now) (a .next .now) (a .s .now) (l .i) (l .q) (c .before .look .result) _ (l .inv .1) (search needs)
           (search needs)
           (c .before .look .ensures) (c .if2 .left),
       bytes (a .s .now) (λ (k : ℕ). c .before .before .before .before .shared-slice-known2 .given k .fits),

@@ -47,8 +47,12 @@ add-digit-3 : tie.Need-add-digit-3 Inv-loop μ-loop
 add-digit-3 c = omega (arith, near (c .before .before))
 
 shared-slice-read-digit-2 : tie.Need-shared-slice-read-digit-2 Inv-loop μ-loop
-shared-slice-read-digit-2 c = omega (arith, near (c .before .before .before), c .before .before .before .before .before .before .before
-    .pre .1 .long)
+shared-slice-read-digit-2 c = omega (
+  arith,
+  near (c .before .before .before),
+  c .before .before .before .before .before .before .before
+      .pre .1 .long,
+)
 
 digit-requires-2 : tie.Need-digit-requires-2 Inv-loop μ-loop
 digit-requires-2 c κs = search needs
@@ -74,11 +78,12 @@ loop-less c = search needs
 loop-again : tie.Need-loop-again Inv-loop μ-loop
 loop-again c =
     let a = c .before .before .before .before .before .before .before .before .args in
-    let l = c .before .before .before .before .before .loop in
-    (omega arith,
-    step (a .s .now) (a .k) (a .n) (a .at) (c .before .before .before .before .before .before .before .before .pre .1) (l .j) (search needs)
-    (c .before .before .digit .result) (c .digit2 .result) (c .before .before .digit .ensures) (c .digit2 .ensures) (l .ok) (l .id)
-        (l .inv .1))
+    let l = c .before .before .before .before .before .loop in (
+      omega arith,
+      step (a .s .now) (a .k) (a .n) (a .at) (c .before .before .before .before .before .before .before .before .pre .1) (l .j) (search needs)
+          (c .before .before .digit .result) (c .digit2 .result) (c .before .before .digit .ensures) (c .digit2 .ensures) (l .ok) (l .id)
+          (l .inv .1),
+    )
 
 returns : tie.Need-returns Inv-loop μ-loop
 returns c =

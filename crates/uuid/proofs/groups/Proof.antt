@@ -21,20 +21,32 @@ group-requires-2 c κs =
 group-requires-3 : tie.Need-group-requires-3
 unfolding hexTable build
 group-requires-3 c κs =
-    let a = c .before .before .before .before .before .before in (refl, in-row (a .args .s .now) 6 2 14 (a .pre) (omega arith)
-        tt, c .before .group2 .ensures)
+    let a = c .before .before .before .before .before .before in (
+      refl,
+      in-row (a .args .s .now) 6 2 14 (a .pre) (omega arith)
+          tt,
+      c .before .group2 .ensures,
+    )
 
 group-requires-4 : tie.Need-group-requires-4
 unfolding hexTable build
 group-requires-4 c κs =
-    let a = c .before .before .before .before .before .before .before .before in (refl, in-row (a .args .s .now) 8 2 19 (a .pre)
-        (omega arith) tt, c .before .group3 .ensures)
+    let a = c .before .before .before .before .before .before .before .before in (
+      refl,
+      in-row (a .args .s .now) 8 2 19 (a .pre)
+          (omega arith) tt,
+      c .before .group3 .ensures,
+    )
 
 group-requires-5 : tie.Need-group-requires-5
 unfolding hexTable build
 group-requires-5 c κs =
-    let a = c .before .before .before .before .before .before .before .before .before .before in (refl, in-row (a .args .s .now)
-        10 6 24 (a .pre) (omega arith) tt, c .before .group4 .ensures)
+    let a = c .before .before .before .before .before .before .before .before .before .before in (
+      refl,
+      in-row (a .args .s .now)
+          10 6 24 (a .pre) (omega arith) tt,
+      c .before .group4 .ensures,
+    )
 
 returns : tie.Need-returns
 returns c = search needs
