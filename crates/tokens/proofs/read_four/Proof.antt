@@ -1,5 +1,5 @@
 -- `tokens::read_four` meets its contract: four digits are of the form, and make a number of at most 9999.
-use mathlib.Core.Path.{sym, _∙_}
+use mathlib.Core.Path.{_≡_, sym, _∙_}
 use Prim.Native.Nat.{ℕ}
 use native.Mathlib.Omega.{arith}
 use Rattle.tokens.proofs.FourDigits.{code-fits, code-passes, value, in-range, read}
