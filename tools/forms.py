@@ -1,5 +1,5 @@
 #!/usr/bin/env python3
-"""Write the tables by which crates/form judges DateTime, UUID, abort code and currency texts.
+"""Write the tables by which crates/form judges DateTime and UUID texts.
 
 The forms are those of crates/form/specs/Listings.antt. Each state is what is left of a form after a text (its derivative), so a table is not
 trusted: one computed test in crates/form/proofs compares it with the listing, state by state and byte by byte.
@@ -90,8 +90,6 @@ FORMS = {
     "dateTime": seq(alt(seq(span("1", "9"), times(3, DIGIT), char("-"), MONTH_DAY), LEAP_DAY), CLOCK, ZONE),
     "id": seq(times(8, HEX), char("-"), times(4, HEX), char("-"), span("1", "5"), times(3, HEX), char("-"), alt(span("8", "9"), span("a", "b")),
               times(3, HEX), char("-"), times(12, HEX)),
-    "code": seq(span("1", "9"), times(3, DIGIT)),
-    "currency": times(3, span("A", "Z")),
 }
 
 

@@ -12,7 +12,7 @@ use lib.Seq.{drop-cons, drop-drop, drop-length, getD-drop}
 use borrow.Author.Tests.{eq-eqb, ne-eqb}
 use Rattle.octets.specs.Bytes.{Bytes}
 use Rattle.octets.proofs.Lists.{default}
-use Rattle.octets.proofs.Computed.{both, both-left, both-right, below, below-at, every, every-at}
+use Rattle.octets.proofs.Computed.{both, both-left, both-right, every, every-at}
 use Rattle.form.specs.Regex.{Re, none, empty, range, seq, alt, upto, alive, nullable, deriv, isNone, judgeFrom, judge}
 use Rattle.form.specs.Machine.{entry, machine}
 use Rattle.form.specs.declared.Verdict.{Verdict}

@@ -96,18 +96,3 @@ idWords =
     "00000000-0000-1000-8000-0000000000" ∷
     "00000000-0000-1000-8000-00000000000" ∷
     "00000000-0000-1000-8000-000000000000" ∷ [])
-
-unfoldable pub codeWords : List (List ℕ)
-codeWords =
-    map ascii
-    ("1" ∷
-    "10" ∷
-    "100" ∷
-    "1000" ∷ [])
-
-unfoldable pub currencyWords : List (List ℕ)
-currencyWords =
-    map ascii
-    ("A" ∷
-    "AA" ∷
-    "AAA" ∷ [])

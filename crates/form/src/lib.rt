@@ -6,7 +6,7 @@ ghost use mathlib.Core.Path.{_≡_};
 ghost use lib.ListN.{getD};
 ghost use Rattle.octets.specs.Bytes.{Bytes};
 ghost use Rattle.form.specs.Regex.{judge};
-ghost use Rattle.form.specs.Listings.{dateTimeForm, idForm, codeForm, currencyForm};
+ghost use Rattle.form.specs.Listings.{dateTimeForm, idForm};
 ghost use Rattle.form.specs.Machine.{entry, machine};
 
 // What a form says of a text: it is of the form, or no text of the form goes on at this offset (the length, where the text stops too soon).
@@ -80,18 +80,4 @@ pub fn id_form(s: &[u8]) -> Verdict
     ensures { λ r. ⌜ r ≡ judge idForm (now (s .entry)) ⌝ }
 {
     run(&tables::CLASS, &tables::ID, s)
-}
-
-// 000's listing 18.
-pub fn code_form(s: &[u8]) -> Verdict
-    ensures { λ r. ⌜ r ≡ judge codeForm (now (s .entry)) ⌝ }
-{
-    run(&tables::CLASS, &tables::CODE, s)
-}
-
-// Three letters A-Z.
-pub fn currency_form(s: &[u8]) -> Verdict
-    ensures { λ r. ⌜ r ≡ judge currencyForm (now (s .entry)) ⌝ }
-{
-    run(&tables::CLASS, &tables::CURRENCY, s)
 }

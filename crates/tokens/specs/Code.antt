@@ -1,11 +1,10 @@
 -- What an abort code's text reads to.
 use Prim.Native.Nat.{ℕ, _+_, _-_, _*_}
 use Prim.Native.Char.{code}
-use mathlib.Core.Bool.{Bool, _&&_}
 use mathlib.Core.List.{List}
-use lib.Dec.{leb}
+use lib.ListN.{getD}
 use Rattle.octets.specs.Decimal.{decimal}
-use Rattle.form.specs.Regex.{judge}
+use Rattle.form.specs.Regex.{Re, range, _·_, times, judge}
 use Rattle.form.specs.Listings.{codeForm}
 use Rattle.form.specs.declared.Verdict.{Verdict}
 use Rattle.form.specs.declared.Verdict.the-variants.{Fits, Stops}
@@ -21,16 +20,11 @@ answer (Stops n) v = Refused n
 unfoldable pub readCode : List ℕ → CodeRead
 readCode s = answer (judge codeForm s) (decimal s)
 
--- the number that the digits a, b, c and d make
-abbrev pub fourPlaces : ℕ → ℕ → ℕ → ℕ → ℕ
-fourPlaces a b c d = (a - code "0") * 1000 + (b - code "0") * 100 + (c - code "0") * 10 + (d - code "0")
+-- the number that the digits at the first four places make
+abbrev pub atFourPlaces : List ℕ → ℕ
+atFourPlaces s =
+    (getD s 0 0 - code "0") * 1000 + (getD s 1 0 - code "0") * 100 + (getD s 2 0 - code "0") * 10 + (getD s 3 0 - code "0")
 
--- the tests of three letters A-Z, and of four digits, the first not 0
-abbrev pub isCurrency : ℕ → ℕ → ℕ → Bool
-isCurrency a b c =
-    leb (code "A") a && leb a (code "Z") && leb (code "A") b && leb b (code "Z") && leb (code "A") c && leb c (code "Z")
-
-abbrev pub isCode : ℕ → ℕ → ℕ → ℕ → Bool
-isCode a b c d =
-    leb (code "1") a && leb a (code "9") && leb (code "0") b && leb b (code "9") && leb (code "0") c && leb c (code "9") && leb (code "0") d
-    && leb d (code "9")
+-- a byte from first to high, and n more from low to high: currency and abort code are of this kind
+abbrev pub rowForm : ℕ → ℕ → ℕ → ℕ → Re
+rowForm first low high n = range first high · times n (range low high)

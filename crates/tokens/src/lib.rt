@@ -1,12 +1,11 @@
 // The short field texts that are only judged, FSP name and currency, and the abort code with its value.
 use form::Verdict;
 ghost use mathlib.Core.Path.{_≡_};
-ghost use Prim.Native.Nat.{_-_, _<_};
-ghost use lib.ListN.{length};
+ghost use Prim.Native.Nat.{_-_, _≤_, _<_};
+ghost use lib.ListN.{getD};
 ghost use Rattle.form.specs.Regex.{judge};
-ghost use Rattle.form.specs.Listings.{nameForm, currencyForm, codeForm};
-ghost use Rattle.form.specs.declared.Verdict.the-variants.{Fits};
-ghost use Rattle.tokens.specs.Code.{isCurrency, isCode, fourPlaces, readCode};
+ghost use Rattle.form.specs.Listings.{nameForm, currencyForm};
+ghost use Rattle.tokens.specs.Code.{rowForm, atFourPlaces, readCode};
 
 pub enum CodeRead {
     Value(u16),
@@ -37,29 +36,45 @@ pub fn read_name(s: &[u8]) -> Verdict
     Verdict::Fits
 }
 
-// Three letters A-Z.
-fn is_currency(a: u8, b: u8, c: u8) -> bool
-    ensures { λ r. ⌜ r ≡ isCurrency a b c ⌝ }
+// A byte from first to high, and n more from low to high.
+fn row(s: &[u8], first: u8, low: u8, high: u8, n: usize) -> Verdict
+    requires { ⌜ low ≤ high ⌝ }
+    ensures { λ r. ⌜ r ≡ judge (rowForm first low high n) (now (s .entry)) ⌝ }
 {
-    (65 <= a) & (a <= 90) & (65 <= b) & (b <= 90) & (65 <= c) & (c <= 90)
+    let mut least = first;
+    let mut i: usize = 0;
+    while i < s.len() {
+        if n < i {
+            return Verdict::Stops(i);
+        }
+        let b = s[i];
+        if b < least {
+            return Verdict::Stops(i);
+        }
+        if high < b {
+            return Verdict::Stops(i);
+        }
+        least = low;
+        i += 1;
+    }
+    if i <= n {
+        return Verdict::Stops(i);
+    }
+    Verdict::Fits
 }
 
-// Currency: three letters A-Z. The table says where a text that is not of the form stops.
+// Currency: three letters A-Z.
 pub fn read_currency(s: &[u8]) -> Verdict
     ensures { λ r. ⌜ r ≡ judge currencyForm (now (s .entry)) ⌝ }
 {
-    if s.len() == 3 {
-        if is_currency(s[0], s[1], s[2]) {
-            return Verdict::Fits;
-        }
-    }
-    form::currency_form(s)
+    row(s, b'A', b'A', b'Z', 2)
 }
 
-// The value of the digit c.
-fn digit(c: u8) -> u32
-    ensures { λ r. ⌜ (r ≡ c - 48) × (r < 256) ⌝ }
+// The value of the digit at i.
+fn digit_at(s: &[u8], i: usize) -> u32
+    ensures { λ r. ⌜ (r ≡ getD (now (s .entry)) i 0 - 48) × (r < 256) ⌝ }
 {
+    let c = octets::at(s, i);
     if c < 48 {
         return 0;
     }
@@ -67,54 +82,23 @@ fn digit(c: u8) -> u32
     d as u32
 }
 
-// The number that four digits make.
-fn four_digits(a: u8, b: u8, c: u8, d: u8) -> u32
-    ensures { λ r. ⌜ r ≡ fourPlaces a b c d ⌝ }
+// The number at the first four places.
+fn four_digits(s: &[u8]) -> u32
+    ensures { λ r. ⌜ r ≡ atFourPlaces (now (s .entry)) ⌝ }
 {
-    digit(a) * 1000 + digit(b) * 100 + digit(c) * 10 + digit(d)
-}
-
-// Four digits, the first not 0.
-fn is_code(a: u8, b: u8, c: u8, d: u8) -> bool
-    ensures { λ r. ⌜ r ≡ isCode a b c d ⌝ }
-{
-    (49 <= a) & (a <= 57) & (48 <= b) & (b <= 57) & (48 <= c) & (c <= 57) & (48 <= d) & (d <= 57)
-}
-
-// A text of four bytes.
-fn read_four(s: &[u8]) -> CodeRead
-    requires { ⌜ length (now s) ≡ 4 ⌝ }
-    ensures { λ r. ⌜ r ≡ readCode (now (s .entry)) ⌝ }
-{
-    let a = s[0];
-    let b = s[1];
-    let c = s[2];
-    let d = s[3];
-    if is_code(a, b, c, d) {
-        let code = four_digits(a, b, c, d);
-        return CodeRead::Value(code as u16);
-    }
-    refused(s)
-}
-
-// A text that is not of the form: the table says where it stops.
-fn refused(s: &[u8]) -> CodeRead
-    requires { ⌜ (judge codeForm (now s) ≡ Fits → ⊥) ⌝ }
-    ensures { λ r. ⌜ r ≡ readCode (now (s .entry)) ⌝ }
-{
-    let v = form::code_form(s);
-    match v {
-        Verdict::Stops(n) => CodeRead::Refused(n),
-        Verdict::Fits => CodeRead::Refused(0),
-    }
+    digit_at(s, 0) * 1000 + digit_at(s, 1) * 100 + digit_at(s, 2) * 10 + digit_at(s, 3)
 }
 
 // Abort code: four digits, the first not 0.
 pub fn read_code(s: &[u8]) -> CodeRead
     ensures { λ r. ⌜ r ≡ readCode (now (s .entry)) ⌝ }
 {
-    if s.len() == 4 {
-        return read_four(s);
+    let v = row(s, b'1', b'0', b'9', 3);
+    match v {
+        Verdict::Stops(n) => CodeRead::Refused(n),
+        Verdict::Fits => {
+            let code = four_digits(s);
+            CodeRead::Value(code as u16)
+        }
     }
-    refused(s)
 }

@@ -80,7 +80,8 @@ loop-again c =
     let a = c .before .before .before .before .before .before .before .before .args in
     let l = c .before .before .before .before .before .loop in (
       omega arith,
-      step (a .s .now) (a .k) (a .n) (a .at) (c .before .before .before .before .before .before .before .before .pre .1) (l .j) (search needs)
+      step (a .s .now) (a .k) (a .n) (a .at) (c .before .before .before .before .before .before .before .before .pre .1) (l .j)
+          (search needs)
           (c .before .before .digit .result) (c .digit2 .result) (c .before .before .digit .ensures) (c .digit2 .ensures) (l .ok) (l .id)
           (l .inv .1),
     )
