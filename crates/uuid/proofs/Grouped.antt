@@ -61,7 +61,7 @@ module _ (s : List ℕ) (k n at : ℕ) (r : InRow s k n at) (j : ℕ) (h : j < n
   second : low ≡ digitOf (getD s (placeOf (k + j) + 1) 0)
   second = f ∙ ap (λ (p : ℕ). digitOf (getD s (p + 1) 0)) (sym (r .places j h))
 
-  byte-is : high < 16 → low < 16 → high % 16 * 16 + low % 16 ≡ byteAt s (k + j)
+  byte-is : high < 16 → low < 16 → (high * 16 + low) % 256 ≡ byteAt s (k + j)
   unfolding byteAt
   byte-is a b =
       let x = digit-value (getD s (placeOf (k + j)) 0) (subst (λ (z : ℕ). z < 16) first a) in
@@ -71,11 +71,11 @@ module _ (s : List ℕ) (k n at : ℕ) (r : InRow s k n at) (j : ℕ) (h : j < n
       omega arith
 
   pub step : (ok : Bool) (id : List ℕ) → SoFar s (k + j) (record { ok = ok; id = id }) →
-      SoFar s (k + (j + 1)) (record { ok = ok && ltb high 16 && ltb low 16; id = set id (k + j) (high % 16 * 16 + low % 16) })
+      SoFar s (k + (j + 1)) (record { ok = ok && ltb high 16 && ltb low 16; id = set id (k + j) ((high * 16 + low) % 256) })
   unfolding digitsUpTo
   step ok id q =
       let i : k + (j + 1) ≡ suc (k + j) = omega arith in
-      let v = high % 16 * 16 + low % 16 in
+      let v = (high * 16 + low) % 256 in
       record {
         size = length-set id (k + j) v ∙ q .size;
         digits =

@@ -56,7 +56,8 @@ fn group(hex: &[u8; 256], s: &[u8], q: Quick, k: usize, n: usize, at: usize) -> 
         let high = digit(hex, s[at + 2 * j]);
         let low = digit(hex, s[at + 2 * j + 1]);
         ok = ok & (high < 16) & (low < 16);
-        id[k + j] = high % 16 * 16 + low % 16;
+        let byte = (high as u32) * 16 + (low as u32);
+        id[k + j] = (byte % 256) as u8;
         j += 1;
     }
     Quick { ok, id }

@@ -57,14 +57,23 @@ shared-slice-read-digit-2 c = omega (
 digit-requires-2 : tie.Need-digit-requires-2 Inv-loop μ-loop
 digit-requires-2 c κs = search needs
 
-mul-id : tie.Need-mul-id Inv-loop μ-loop
-mul-id c = search needs
+cast-byte : tie.Need-cast-byte Inv-loop μ-loop
+cast-byte c = search needs
+
+mul-byte : tie.Need-mul-byte Inv-loop μ-loop
+mul-byte c = search needs
+
+cast-byte-2 : tie.Need-cast-byte-2 Inv-loop μ-loop
+cast-byte-2 c = search needs
+
+add-byte : tie.Need-add-byte Inv-loop μ-loop
+add-byte c = search needs
+
+cast-id : tie.Need-cast-id Inv-loop μ-loop
+cast-id c = search needs
 
 add-id : tie.Need-add-id Inv-loop μ-loop
-add-id c = search needs
-
-add-id-2 : tie.Need-add-id-2 Inv-loop μ-loop
-add-id-2 c = omega (arith, c .before .before .before .before .before .before .before .before .pre .1 .within)
+add-id c = omega (arith, c .before .before .before .before .before .before .before .before .pre .1 .within)
 
 array-write-id : tie.Need-array-write-id Inv-loop μ-loop
 array-write-id c = omega (arith, c .before .before .before .before .before .before .before .before .pre .1 .within)
@@ -109,9 +118,12 @@ group-spec =
     add-digit-3
     shared-slice-read-digit-2
     digit-requires-2
-    mul-id
+    cast-byte
+    mul-byte
+    cast-byte-2
+    add-byte
+    cast-id
     add-id
-    add-id-2
     array-write-id
     add-j
     loop-less
