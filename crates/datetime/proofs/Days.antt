@@ -1,15 +1,16 @@
 -- Laws of the calendar.
 use mathlib.Core.Path.{_≡_, refl, sym, ap, subst, subst⁻¹, subst₂, _∙_}
-use mathlib.Core.Bool.{Bool, true, false, cond}
+use mathlib.Core.Bool.{Bool, true, false, cond, not, _&&_}
 use Prim.Native.Nat.{ℕ, zero, suc, suc-le-suc, _+_, _-_, _*_, _/_, _%_, _≤_, _<_}
-use native.Mathlib.Nat.{le-refl}
+use native.Mathlib.Nat.{le-refl, add-zero}
 use native.Mathlib.Numerals.{add-one, add-one-le}
 use native.Mathlib.Omega.{arith}
 use native.Mathlib.Decide.{ℕ-discrete, decLt}
-use lib.Dec.{T, eqb, ltb, leb, leb→le, eqb→eq}
-use borrow.Author.Tests.{eq-eqb, ne-eqb, le-leb, lt-leb, leb-true, leb-false}
+use lib.Dec.{T, eqb, leb, leb→le}
+use borrow.Author.Tests.{eq-eqb, ne-eqb, leb-true, leb-false}
 use Rattle.octets.proofs.Computed.{both, both-left, both-right, below, below-at}
 use Rattle.datetime.specs.Calendar.{leap, yearDays, monthDays, before, lastBegun, yearOf}
+use Rattle.datetime.specs.Plain.{beforeCentury}
 
 -- numbers that lie between two ends, by a computed test of those counted from `start`
 between : (f : ℕ → ℕ) (start n lo hi : ℕ) → T (below n (λ j. both (leb lo (f (start + j))) (leb (f (start + j)) hi))) →
@@ -66,6 +67,51 @@ pub before-year : (y : ℕ) → before yearDays y ≡ counted y
 unfolding before
 before-year zero = refl
 before-year (suc y) = ap (λ (n : ℕ). n + yearDays y) (before-year y) ∙ counted-next y ∙ ap counted (add-one y)
+
+-- centuries begin with a leap year by fours
+pub quarter : (c : ℕ) → c % 4 ≡ 0 → (c + 4) / 4 ≡ (c + 3) / 4 + 1
+quarter c a = omega arith
+
+pub no-quarter : (c : ℕ) → (c % 4 ≡ 0 → ⊥) → (c + 4) / 4 ≡ (c + 3) / 4
+no-quarter c a = omega arith
+
+-- the same by century and place in it: where the century's first year is no leap year, the years after it begin a day sooner
+pub by-century : (c x : ℕ) → x ≤ 99 → before yearDays (c * 100 + x) + cond (not (eqb (c % 4) 0) && not (eqb x 0)) 1 0 ≡ beforeCentury c +
+    (365 * x + (x + 3) / 4)
+by-century c x h = ap (λ (n : ℕ). n + cond (not (eqb (c % 4) 0) && not (eqb x 0)) 1 0) (before-year (c * 100 + x)) ∙ parts
+  where
+    parts : counted (c * 100 + x) + cond (not (eqb (c % 4) 0) && not (eqb x 0)) 1 0 ≡ beforeCentury c + (365 * x + (x + 3) / 4)
+    parts =
+        let e₁ : (c * 100 + x + 3) / 4 ≡ c * 25 + (x + 3) / 4 = omega arith in
+        elim (ℕ-discrete x 0) [
+          | yes z ↦
+              let e₂ : (c * 100 + x + 99) / 100 ≡ c = omega arith in
+              let e₃ : (c * 100 + x + 399) / 400 ≡ (c + 3) / 4 = omega arith in
+              elim (ℕ-discrete (c % 4) 0) [
+                | yes a ↦ simp (eq-eqb x 0 z, eq-eqb (c % 4) 0 a, e₁, e₂, e₃) (omega arith)
+                | no a ↦ simp (eq-eqb x 0 z, ne-eqb (c % 4) 0 a, e₁, e₂, e₃) (omega arith)
+              ]
+          | no z ↦
+              let e₂ : (c * 100 + x + 99) / 100 ≡ c + 1 = omega arith in
+              let e₃ : (c * 100 + x + 399) / 400 ≡ (c + 4) / 4 = omega arith in
+              elim (ℕ-discrete (c % 4) 0) [
+                | yes a ↦ simp (ne-eqb x 0 z, eq-eqb (c % 4) 0 a, e₁, e₂, e₃, quarter c a) (omega arith)
+                | no a ↦ simp (ne-eqb x 0 z, ne-eqb (c % 4) 0 a, e₁, e₂, e₃, no-quarter c a) (omega arith)
+              ]
+        ]
+
+module _ (c x all : ℕ) (h : x ≤ 99) (e : all ≡ beforeCentury c + (365 * x + (x + 3) / 4)) where
+  counts : (t : Bool) → (not (eqb (c % 4) 0) && not (eqb x 0)) ≡ t → before yearDays (c * 100 + x) + cond t 1 0 ≡ all
+  counts t k = subst (λ (b : Bool). before yearDays (c * 100 + x) + cond b 1 0 ≡ all) k (by-century c x h ∙ sym e)
+
+  pub year-sooner : (not (eqb (c % 4) 0) && not (eqb x 0)) ≡ true → (1 ≤ all) × (all - 1 ≡ before yearDays (c * 100 + x))
+  year-sooner k = one (before yearDays (c * 100 + x)) (counts true k)
+    where
+      one : (b : ℕ) → b + 1 ≡ all → (1 ≤ all) × (all - 1 ≡ b)
+      one b g = (omega arith, omega arith)
+
+  pub year-then : (not (eqb (c % 4) 0) && not (eqb x 0)) ≡ false → all ≡ before yearDays (c * 100 + x)
+  year-then k = sym (counts false k) ∙ add-zero (before yearDays (c * 100 + x))
 
 module _ (days : ℕ → ℕ) where
   -- what begins later has no fewer days before it

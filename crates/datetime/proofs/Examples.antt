@@ -1,6 +1,6 @@
 -- The P rows of 01 about DateTime, by computation, and some of its other rows.
 use mathlib.Core.Path.{_≡_, refl}
-use lib.IntN.{pos, negsuc, negℤ}
+use lib.IntN.{pos, negℤ}
 use Rattle.octets.specs.Ascii.{ascii}
 use Rattle.datetime.specs.Calendar.{before}
 use Rattle.datetime.specs.Instant.{timeOf, offsetAfter, epoch, readDateTime}

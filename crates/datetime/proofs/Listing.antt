@@ -16,6 +16,7 @@ use Rattle.form.specs.Listings.{dateTimeForm}
 use Rattle.form.proofs.Same.{same}
 use Rattle.form.proofs.Steps.{left}
 use Rattle.datetime.specs.Calendar.{monthDays}
+use Rattle.datetime.specs.Plain.{leapIn}
 use Rattle.datetime.proofs.Parts.{Piece, stands, each, alike}
 
 -- what is left of the form after a text of it
@@ -40,10 +41,6 @@ piece from lead width allowed next = record { from = from; lead = lead; width = 
 
 abbrev pub century : Piece
 century = piece dateTimeForm [] 2 (leb 10) (λ c. hundreds (eqb (c % 4) 0))
-
--- whether a year is a leap year, by its two last digits and whether the hundreds are divided by four
-abbrev pub leapIn : Bool → ℕ → Bool
-leapIn fourth x = eqb (x % 4) 0 && (fourth || not (eqb x 0))
 
 abbrev pub year : Bool → Piece
 year fourth = piece (hundreds fourth) [] 2 (λ x. true) (λ x. years (leapIn fourth x))

@@ -1,5 +1,5 @@
 -- A text of a form, part by part: a number of fixed width after fixed characters, read off a form by one computed test.
-use mathlib.Core.Path.{_≡_, refl, sym, ap, ap₂, subst, _∙_}
+use mathlib.Core.Path.{_≡_, refl, ap, ap₂, subst, _∙_}
 use mathlib.Core.Bool.{Bool, true, false, not, cond}
 use mathlib.Core.List.{List, [], _∷_, _++_}
 use Prim.Native.Nat.{ℕ, zero, suc, _+_, _^_, _<_}
@@ -12,7 +12,7 @@ use Rattle.form.specs.Regex.{Re, alive, nullable, deriv, judgeFrom}
 use Rattle.form.specs.declared.Verdict.{Verdict}
 use Rattle.form.specs.declared.Verdict.the-variants.{Fits, Stops}
 use Rattle.form.proofs.Same.{same, same-eq}
-use Rattle.form.proofs.Steps.{left, leads, is-true, Ends, on}
+use Rattle.form.proofs.Steps.{left, leads, Ends, on}
 use Rattle.datetime.specs.Instant.{number, decimal}
 
 -- after any w bytes at which the form goes on, the test passes of what is left of it and of these bytes; and no text ends before

@@ -1,35 +1,23 @@
 -- The time of a date, both ways: its range, and an instant's text read back.
 use mathlib.Core.Path.{_≡_, refl, sym, ap, subst, subst⁻¹, _∙_}
-use mathlib.Core.Bool.{Bool, true, false, cond}
-use mathlib.Core.List.{List, [], _∷_, _++_}
+use mathlib.Core.Bool.{true, false, cond}
+use mathlib.Core.List.{[], _∷_}
 use Prim.Native.Nat.{ℕ, suc, suc-le-suc, _+_, _-_, _*_, _/_, _%_, _≤_, _<_}
 use Prim.Native.Char.{code}
 use native.Mathlib.Numerals.{add-one}
 use native.Mathlib.Omega.{arith}
 use borrow.Author.Tests.{eqb-false}
-use lib.IntN.{ℤ, pos, _+ℤ_, natAbs, subℕ}
+use lib.IntN.{ℤ, subℕ}
 use Rattle.form.specs.Regex.{judge}
 use Rattle.form.specs.Listings.{dateTimeForm}
-use Rattle.form.specs.declared.Verdict.the-variants.{Fits, Stops}
-use Rattle.datetime.specs.Calendar.{leap, yearDays, monthDays, before, dayNumber, yearOf, dayOfYear, monthOf, dayOf}
-use Rattle.datetime.specs.Instant.{
-  Civil,
-  civilOf,
-  timeOf,
-  civilOn,
-  textAt,
-  utcText,
-  dateTimeText,
-  instantOf,
-  readDateTime,
-  inYears,
-  epoch,
-}
-use Rattle.datetime.specs.declared.InstantRead.the-variants.{Value, Refused}
+use Rattle.form.specs.declared.Verdict.the-variants.{Fits}
+use Rattle.datetime.specs.Calendar.{leap, yearDays, monthDays, before, dayNumber, yearOf, monthOf, dayOf}
+use Rattle.datetime.specs.Instant.{Civil, timeOf, civilOn, textAt, dateTimeText, instantOf, readDateTime, inYears}
+use Rattle.datetime.specs.declared.InstantRead.the-variants.{Value}
 use Rattle.datetime.proofs.Days.{counted, before-year, before-mono, counted-mono, year-months, year-is}
 use Rattle.datetime.proofs.Formulas.{in-year, year-began, month-began, month-least, month-most, day-most}
-use Rattle.datetime.proofs.Signed.{epoch-is, Since, since, count-is}
-use Rattle.datetime.proofs.Texts.{Valid, Zone, utc, in-form}
+use Rattle.datetime.proofs.Signed.{since, count-is}
+use Rattle.datetime.proofs.Texts.{Valid, utc, in-form}
 use Rattle.datetime.proofs.Values.{civil-back, neither, read-value}
 
 -- a valid date's day lies from 1000-01-01 to 9999-12-31

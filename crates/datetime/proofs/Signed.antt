@@ -9,11 +9,11 @@ use lib.Seq.{length-take-le, take-suc, drop-cons, append-snoc, set-at}
 use mathlib.Core.List.{List, _++_}
 use native.Mathlib.Numerals.{add-one}
 use lib.IntN.{ℤ, pos, negsuc, _+ℤ_, _-ℤ_, subℕ, natAbs}
-use lib.Signed.{nonNeg, leZ}
+use lib.Signed.{nonNeg}
 use mir.Syntax.{w64}
 use mir.Val.{SFits, Fits, toZ, ofZ}
 use mir.Facts.{toZ-ofZ}
-use borrow.Author.Tests.{ltb-true, ltb-false, lt-ltb, le-ltb, leb-true, leb-false}
+use borrow.Author.Tests.{lt-ltb, le-ltb, leb-true}
 use Rattle.datetime.specs.Calendar.{before}
 use Rattle.form.specs.Writing.{intoRoom}
 use Rattle.form.specs.declared.Written.the-variants.{Length, OutsideYears, NoRoom}

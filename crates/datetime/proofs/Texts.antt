@@ -5,24 +5,24 @@ use native.Mathlib.Omega.{arith}
 use native.Mathlib.Decide.{ℕ-discrete}
 use mathlib.Core.Path.{_≡_, refl, sym, ap, subst, subst⁻¹, subst₂, _∙_}
 use mathlib.Core.Bool.{Bool, true, false, false≢true, not, cond, _&&_, _||_}
-use mathlib.Core.List.{List, [], _∷_, _++_, append-assoc}
+use mathlib.Core.List.{List, [], _∷_, _++_}
 use borrow.Author.Tests.{eq-eqb, ne-eqb}
-use lib.ListN.{getD}
+use lib.ListN.{getD, drop}
 use lib.Dec.{T, eqb, leb, ltb, lt→ltb, le→leb, ltb→lt, leb→le}
 use Rattle.octets.specs.Bytes.{Bytes}
 use Rattle.octets.proofs.Computed.{both, both-left, both-right}
 use Rattle.form.specs.Regex.{Re, empty, judge}
 use Rattle.form.specs.Listings.{dateTimeForm}
-use Rattle.form.specs.declared.Verdict.the-variants.{Fits, Stops}
+use Rattle.form.specs.declared.Verdict.the-variants.{Fits}
 use Rattle.form.proofs.Same.{same, same-eq}
-use Rattle.form.proofs.Steps.{Ends, left, is-true}
+use Rattle.form.proofs.Steps.{Ends, left}
 use Rattle.datetime.specs.Calendar.{leap, monthDays}
-use Rattle.datetime.specs.Instant.{decimal, Civil, spelled}
+use Rattle.datetime.specs.Instant.{decimal, Civil, spelled, civilOn, utcText}
+use Rattle.datetime.specs.Plain.{leapIn}
 use Rattle.datetime.proofs.Days.{month-length}
-use Rattle.datetime.proofs.Parts.{goes, Found, found, Split, split, fitted, alike, alike-eq, whatever-before}
+use Rattle.datetime.proofs.Parts.{goes, Found, found, split, fitted, alike, alike-eq, whatever-before}
 use Rattle.datetime.proofs.Listing.{
   after,
-  leapIn,
   century,
   year,
   month,
@@ -47,7 +47,7 @@ use Rattle.datetime.proofs.Listing.{
 }
 
 -- the leap rule by the two halves of the year
-leap-halves : (c x : ℕ) → x < 100 → leap (c * 100 + x) ≡ leapIn (eqb (c % 4) 0) x
+pub leap-halves : (c x : ℕ) → x < 100 → leap (c * 100 + x) ≡ leapIn (eqb (c % 4) 0) x
 leap-halves c x h =
     let f : (c * 100 + x) % 4 ≡ x % 4 = omega arith in
     let g : (c * 100 + x) % 100 ≡ x = omega arith in
@@ -73,6 +73,13 @@ year-halves c x h k =
     let e₃ : (c * 100 + x) / 10 % 10 ≡ x / 10 % 10 = omega arith in
     let e₄ : (c * 100 + x) % 10 ≡ x % 10 = omega arith in
     rw (e₁, e₂, e₃, e₄)
+
+-- the text of a date and a clock time, by the halves of the year
+abbrev pub halved : ℕ → ℕ → ℕ → ℕ → ℕ → List ℕ
+halved c x m d t = (decimal 2 c ++ decimal 2 x) ++ drop 4 (utcText (civilOn 0 m d t))
+
+pub utc-halves : (c x m d t : ℕ) → c < 100 → x < 100 → halved c x m d t ≡ utcText (civilOn (c * 100 + x) m d t)
+utc-halves c x m d t h k = ap (λ (y : List ℕ). y ++ drop 4 (utcText (civilOn 0 m d t))) (sym (year-halves c x h k))
 
 -- a zone: `Z`, or a sign and hours and minutes
 pub data Zone : List ℕ → Type 0 where

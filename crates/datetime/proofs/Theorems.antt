@@ -1,14 +1,13 @@
 -- What a reader of this crate can rely on: which texts have a value and in which range, what the zones are worth, leap days, and
 -- when the writer refuses. That written text reads back is `round` of Round.
 use mathlib.Core.Path.{_≡_, refl, sym, ap, subst, subst⁻¹, _∙_}
-use mathlib.Core.Bool.{Bool, true, false, cond, false≢true}
+use mathlib.Core.Bool.{Bool, true, false, cond}
 use mathlib.Core.List.{List, [], _∷_, _++_}
-use Prim.Native.Nat.{ℕ, zero, suc, suc-le-suc, _+_, _-_, _*_, _/_, _%_, _≤_, _<_}
+use Prim.Native.Nat.{ℕ, zero, suc, _+_, _-_, _*_, _≤_, _<_}
 use Prim.Native.Char.{code}
-use native.Mathlib.Nat.{add-zero}
 use native.Mathlib.Omega.{arith}
 use lib.Dec.{T, ltb, leb, eqb, le→leb}
-use lib.ListN.{length, take, getD}
+use lib.ListN.{length, take}
 use lib.Seq.{take-at}
 use lib.IntN.{ℤ, pos, negsuc, negℤ, _+ℤ_, _-ℤ_, subℕ, +ℤ-idr, +ℤ-assoc, +ℤ-comm, negℤ-+ℤ}
 use lib.Signed.{leZ}
@@ -18,33 +17,13 @@ use Rattle.octets.specs.Bytes.{Bytes}
 use Rattle.octets.proofs.Lists.{bytes-append}
 use Rattle.form.specs.Regex.{judge}
 use Rattle.form.specs.Listings.{dateTimeForm}
-use Rattle.form.specs.Writing.{intoRoom}
 use Rattle.form.specs.declared.Verdict.{Verdict}
 use Rattle.form.specs.declared.Verdict.the-variants.{Fits, Stops}
-use Rattle.form.specs.declared.Written.{Written}
 use Rattle.form.specs.declared.Written.the-variants.{Length, NoRoom, OutsideYears}
 use Rattle.datetime.specs.Calendar.{leap, monthDays}
-use Rattle.datetime.specs.Instant.{
-  lastDigit,
-  number,
-  decimal,
-  Civil,
-  civilOf,
-  timeOf,
-  spelled,
-  epoch,
-  offsetAfter,
-  instantOf,
-  valueOf,
-  readDateTime,
-  dateTimeText,
-  inYears,
-  writeDateTime,
-}
-use Rattle.datetime.specs.declared.InstantRead.{InstantRead}
-use Rattle.datetime.specs.declared.InstantRead.the-variants.{Value, Refused}
+use Rattle.datetime.specs.Instant.{number, decimal, Civil, civilOf, timeOf, spelled, epoch, offsetAfter, instantOf, valueOf, readDateTime, dateTimeText, inYears, writeDateTime}
+use Rattle.datetime.specs.declared.InstantRead.the-variants.{Value}
 use Rattle.datetime.proofs.Signed.{epoch-is, minus, outside}
-use Rattle.datetime.proofs.Listing.{isSign}
 use Rattle.datetime.proofs.Texts.{Valid, Zone, utc, away, in-form, OfForm, of-form}
 use Rattle.datetime.proofs.Values.{civil-back, valid-of, read-value, neither, ahead, behind, back-two, back-four}
 use Rattle.datetime.proofs.Round.{time-range}

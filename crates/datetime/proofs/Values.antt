@@ -1,9 +1,9 @@
 -- What a text of the form shows: the fields that were spelled, in their ranges.
 use mathlib.Core.Path.{_≡_, refl, sym, ap, subst, subst⁻¹, _∙_}
-use mathlib.Core.List.{List, [], _∷_, _++_}
-use Prim.Native.Nat.{ℕ, suc, suc-le-suc, _+_, _-_, _*_, _/_, _%_, _≤_, _<_}
+use mathlib.Core.List.{List, _++_}
+use Prim.Native.Nat.{ℕ, _+_, _-_, _*_, _/_, _≤_, _<_}
 use Prim.Native.Char.{code}
-use native.Mathlib.Nat.{le-trans, add-zero}
+use native.Mathlib.Nat.{add-zero}
 use native.Mathlib.Omega.{arith}
 use lib.ListN.{length, getD}
 use lib.Dec.{eqb}
@@ -15,26 +15,12 @@ use Rattle.form.specs.Regex.{judge}
 use Rattle.form.specs.Listings.{dateTimeForm}
 use Rattle.form.specs.declared.Verdict.{Verdict}
 use Rattle.form.specs.declared.Verdict.the-variants.{Fits, Stops}
-use Rattle.datetime.specs.Calendar.{leap, monthDays, dayNumber}
-use Rattle.datetime.specs.Instant.{
-  digitOf,
-  lastDigit,
-  number,
-  decimal,
-  Civil,
-  civilOf,
-  spelled,
-  timeOf,
-  offsetAfter,
-  epoch,
-  instantOf,
-  valueOf,
-  readDateTime,
-}
+use Rattle.datetime.specs.Calendar.{leap, dayNumber}
+use Rattle.datetime.specs.Instant.{digitOf, lastDigit, number, Civil, civilOf, spelled, timeOf, offsetAfter, epoch, instantOf, valueOf, readDateTime}
 use Rattle.datetime.specs.declared.InstantRead.the-variants.{Value, Refused}
 use Rattle.datetime.proofs.Days.{month-length}
 use Rattle.datetime.proofs.Signed.{epoch-is}
-use Rattle.datetime.proofs.Texts.{Valid, Zone, utc, away, OfForm, of-form}
+use Rattle.datetime.proofs.Texts.{Valid, Zone, utc, away, of-form}
 
 -- digits show the number that they were made of
 pub back-two : (x : ℕ) → x < 100 → (0 + digitOf (lastDigit (x / 10))) * 10 + digitOf (lastDigit x) ≡ x
@@ -93,16 +79,6 @@ offset-of s b j n =
 module _ (s : List ℕ) (a b m d : ℕ) (ea : a ≡ number s 0 2) (eb : b ≡ number s 2 2) (em : m ≡ number s 5 2) (ed : d ≡ number s 8 2) where
   year-joined : a * 100 + b ≡ number s 0 4
   year-joined = omega arith
-
-  pub date-ranges : Valid (civilOf s) → (a * 100 + b ≤ 9999) × (1 ≤ m) × (m ≤ 12) × (1 ≤ d) × (d ≤ 31)
-  date-ranges v =
-      let long = month-length (leap (number s 0 4)) (number s 5 2) (v .month-least) (suc-le-suc (v .month-most)) .1 in (
-        omega (arith, year-joined, v .year-most),
-        subst⁻¹ (λ (x : ℕ). 1 ≤ x) em (v .month-least),
-        subst⁻¹ (λ (x : ℕ). x ≤ 12) em (v .month-most),
-        subst⁻¹ (λ (x : ℕ). 1 ≤ x) ed (v .day-least),
-        subst⁻¹ (λ (x : ℕ). x ≤ 31) ed (le-trans (v .day-most) long),
-      )
 
   pub time-counted : (n k : ℕ) → n ≡ dayNumber (a * 100 + b) m d → k ≡ number s 11 2 * 3600000 + number s 14 2 * 60000 + number s 17 2
       * 1000 + number s 20 3 →

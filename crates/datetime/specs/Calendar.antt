@@ -1,7 +1,7 @@
 -- The Gregorian calendar, in days from 0000-01-01. Years, months and days of a month are counted as people count them.
 use Prim.Native.Nat.{ℕ, zero, suc, _+_, _-_, _%_}
 use mathlib.Core.Bool.{Bool, cond, not, _&&_, _||_}
-use mathlib.Core.List.{List, [], _∷_}
+use mathlib.Core.List.{[], _∷_}
 use lib.Dec.{leb, eqb}
 use lib.ListN.{getD}
 

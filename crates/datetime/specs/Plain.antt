@@ -1,12 +1,11 @@
--- The reader's quick test, which no promise cites: it is enough for a text to be of listing 12's form, and is made of few plain
--- comparisons. What it does not pass, the form's table judges.
+-- The reader's quick test, which no promise cites: it passes exactly the texts of listing 12's form, and is made of few plain
+-- comparisons. Where a text stops that it does not pass, the form's table tells.
 use Prim.Native.Nat.{ℕ, _+_, _-_, _*_, _/_, _%_}
 use Prim.Native.Char.{code}
-use mathlib.Core.Bool.{Bool, false, cond, _&&_, _||_}
+use mathlib.Core.Bool.{Bool, false, cond, not, _&&_, _||_}
 use mathlib.Core.List.{List}
 use lib.Dec.{eqb, ltb, leb}
 use lib.ListN.{length, getD}
-use Rattle.datetime.specs.Calendar.{leap}
 use Rattle.datetime.specs.Instant.{digitOf}
 
 abbrev pub isDigit : ℕ → Bool
@@ -16,9 +15,17 @@ isDigit c = leb (code "0") c && leb c (code "9")
 abbrev pub pair : ℕ → ℕ → ℕ
 pair a b = cond (isDigit a && isDigit b) (digitOf a * 10 + digitOf b) 255
 
+-- whether a year is a leap year, by its two last digits and whether the hundreds are divided by four
+abbrev pub leapIn : Bool → ℕ → Bool
+leapIn fourth x = eqb (x % 4) 0 && (fourth || not (eqb x 0))
+
 -- a month's days without a table: 31 and 30 by turns, beginning again in August
 abbrev pub monthLength : Bool → ℕ → ℕ
 monthLength l m = cond (eqb m 2) (cond l 29 28) (30 + (m + m / 8) % 2)
+
+-- the days before a century, without counting
+abbrev pub beforeCentury : ℕ → ℕ
+beforeCentury c = 36524 * c + (c + 3) / 4
 
 -- a day's place in the year, as if February had 30 days
 abbrev pub evenDay : Bool → ℕ → ℕ
@@ -39,7 +46,7 @@ plainMonth l m d = leb 1 m && leb m 12 && leb 1 d && leb d (monthLength l m)
 unfoldable pub plainDate : List ℕ → Bool
 plainDate s =
     plainYear (pairAt s 0) (pairAt s 2)
-    && plainMonth (leap (pairAt s 0 * 100 + pairAt s 2)) (pairAt s 5) (pairAt s 8)
+    && plainMonth (leapIn (eqb (pairAt s 0 % 4) 0) (pairAt s 2)) (pairAt s 5) (pairAt s 8)
 
 unfoldable pub plainClock : List ℕ → Bool
 plainClock s =

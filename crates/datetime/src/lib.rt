@@ -18,11 +18,10 @@ pub enum InstantRead {
 pub fn read_datetime(s: &[u8]) -> InstantRead
     ensures { λ r. ⌜ r ≡ readDateTime (now (s .entry)) ⌝ }
 {
-    let v = reader::verdict(s);
-    match v {
-        form::Verdict::Fits => InstantRead::Value(reader::instant(s)),
-        form::Verdict::Stops(n) => InstantRead::Refused(n),
+    if reader::plain(s) {
+        return InstantRead::Value(reader::instant(s));
     }
+    InstantRead::Refused(reader::stop(s))
 }
 
 // Writes the text of an instant to the front of the buffer: 24 bytes, always with `Z`. Refused are an instant outside the years 1000 to

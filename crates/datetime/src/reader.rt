@@ -1,12 +1,12 @@
-// Reading a text: a quick test that passes the texts of the form, the verdict, and the value.
+// Reading a text: a quick test that passes exactly the texts of the form, the value, and where another text stops.
 ghost use mathlib.Core.Path.{_≡_};
-ghost use mathlib.Core.Bool.{true};
+ghost use mathlib.Core.Bool.{true, false};
 ghost use Prim.Native.Nat.{_+_, _-_, _*_, _^_, _≤_, _<_};
 ghost use lib.ListN.{length};
 ghost use lib.IntN.{subℕ};
 ghost use Rattle.form.specs.Regex.{judge};
 ghost use Rattle.form.specs.Listings.{dateTimeForm};
-ghost use Rattle.form.specs.declared.Verdict.the-variants.{Fits};
+ghost use Rattle.form.specs.declared.Verdict.the-variants.{Stops};
 ghost use Rattle.datetime.specs.Instant.{digitOf, number, civilOf, timeOf, instantOf};
 ghost use Rattle.datetime.specs.Plain.{pair, pairAt, plainDate, plainClock, plainMarks, plainOffset, plainZone, plain as plainText};
 
@@ -39,7 +39,7 @@ fn plain_date(s: &[u8]) -> bool
     let x = two_at(s, 2);
     let m = two_at(s, 5);
     let d = two_at(s, 8);
-    let days = crate::calendar::month_days(crate::calendar::leap(c * 100 + x), m);
+    let days = crate::calendar::month_days(crate::calendar::leap(c, x), m);
     ((10 <= c) & (c < 100) & (x < 100)) & ((1 <= m) & (m <= 12) & (1 <= d) & (d <= days))
 }
 
@@ -88,8 +88,8 @@ fn plain_zone(s: &[u8]) -> bool
     false
 }
 
-// Whether the text plainly is of the form: 24 or 29 bytes with everything in its place and range.
-fn plain(s: &[u8]) -> bool
+// Whether the text is of the form: 24 or 29 bytes with everything in its place and range.
+pub fn plain(s: &[u8]) -> bool
     ensures { λ r. ⌜ r ≡ plainText (now (s .entry)) ⌝ }
 {
     if plain_zone(s) {
@@ -98,14 +98,16 @@ fn plain(s: &[u8]) -> bool
     false
 }
 
-// The form's verdict: nearly every text is plain, and the table has to find only where another stops.
-pub fn verdict(s: &[u8]) -> form::Verdict
-    ensures { λ r. ⌜ r ≡ judge dateTimeForm (now (s .entry)) ⌝ }
+// Where another text stops. The table finds it; that a text fits which is not plain does not happen.
+pub fn stop(s: &[u8]) -> usize
+    requires { ⌜ plainText (now s) ≡ false ⌝ }
+    ensures { λ r. ⌜ Stops r ≡ judge dateTimeForm (now (s .entry)) ⌝ }
 {
-    if plain(s) {
-        return form::Verdict::Fits;
+    let v = form::datetime_form(s);
+    match v {
+        form::Verdict::Fits => s.len(),
+        form::Verdict::Stops(n) => n,
     }
-    form::datetime_form(s)
 }
 
 fn digit(c: u8) -> u64
@@ -118,15 +120,16 @@ fn digit(c: u8) -> u64
     n as u64
 }
 
+// The number of two digits that were tested. Taken as the test took it, it is there already.
 fn digits_at(s: &[u8], i: usize) -> u64
-    requires { ⌜ i + 1 < length (now s) ⌝ }
-    ensures { λ r. ⌜ (r ≡ number (now (s .entry)) i 2) × (r < 2816) ⌝ }
+    requires { ⌜ (i + 1 < length (now s)) × (pairAt (now s) i < 100) ⌝ }
+    ensures { λ r. ⌜ (r ≡ number (now (s .entry)) i 2) × (r < 100) ⌝ }
 {
-    digit(s[i]) * 10 + digit(s[i + 1])
+    two_at(s, i)
 }
 
 fn clock_time(s: &[u8]) -> u64
-    requires { ⌜ 24 ≤ length (now s) ⌝ }
+    requires { ⌜ (24 ≤ length (now s)) × (plainClock (now s) ≡ true) ⌝ }
     ensures { λ r. ⌜ (r ≡ number (now (s .entry)) 11 2 * 3600000 + number (now (s .entry)) 14 2 * 60000 + number (now (s .entry)) 17 2
         * 1000 + number (now (s .entry)) 20 3) × (r < 100000000000) ⌝ }
 {
@@ -140,18 +143,19 @@ fn clock_time(s: &[u8]) -> u64
 
 // Milliseconds from 0000-01-01T00:00:00.000 on the text's own clock.
 fn local_time(s: &[u8]) -> u64
-    requires { ⌜ (24 ≤ length (now s)) × (judge dateTimeForm (now s) ≡ Fits) ⌝ }
+    requires { ⌜ (24 ≤ length (now s)) × (plainDate (now s) ≡ true) × (plainClock (now s) ≡ true) ⌝ }
     ensures { λ r. ⌜ (r ≡ timeOf (civilOf (now (s .entry)))) × (r < 1000000000000000) ⌝ }
 {
-    let year = digits_at(s, 0) * 100 + digits_at(s, 2);
+    let century = digits_at(s, 0);
+    let year = digits_at(s, 2);
     let month = digits_at(s, 5);
     let day = digits_at(s, 8);
-    let n = crate::calendar::day_number(year, month, day);
+    let n = crate::calendar::day_number(century, year, month, day);
     n * 86400000 + clock_time(s)
 }
 
 fn offset(s: &[u8]) -> u64
-    requires { ⌜ 29 ≤ length (now s) ⌝ }
+    requires { ⌜ (29 ≤ length (now s)) × (plainOffset (now s) ≡ true) ⌝ }
     ensures { λ r. ⌜ (r ≡ number (now (s .entry)) 24 2 * 3600000 + number (now (s .entry)) 27 2 * 60000) × (r < 100000000000) ⌝ }
 {
     let hour = digits_at(s, 24);
@@ -170,16 +174,17 @@ fn difference(up: u64, down: u64) -> i64
 
 // The value of a text of the form.
 pub fn instant(s: &[u8]) -> i64
-    requires { ⌜ judge dateTimeForm (now s) ≡ Fits ⌝ }
+    requires { ⌜ plainText (now s) ≡ true ⌝ }
     ensures { λ r. ⌜ r ≡ instantOf (now (s .entry)) ⌝ }
 {
     let local = local_time(s);
+    if s.len() == 24 {
+        return difference(local, EPOCH);
+    }
+    let away = offset(s);
     let sign = s[23];
     if sign == b'+' {
-        return difference(local, EPOCH + offset(s));
+        return difference(local, EPOCH + away);
     }
-    if sign == b'-' {
-        return difference(local + offset(s), EPOCH);
-    }
-    difference(local, EPOCH)
+    difference(local + away, EPOCH)
 }

@@ -2,7 +2,7 @@
 use crate::calendar::Date;
 ghost use mathlib.Core.Path.{_≡_};
 ghost use mathlib.Core.Bool.{true};
-ghost use Prim.Native.Nat.{_/_, _≤_, _<_};
+ghost use Prim.Native.Nat.{_+_, _*_, _/_, _≤_, _<_};
 ghost use mathlib.Core.List.{_++_};
 ghost use lib.ListN.{length, drop};
 ghost use lib.IntN.{_+ℤ_, pos, natAbs};
@@ -39,14 +39,13 @@ fn ones(x: u64) -> u8
 
 // A date, and so many milliseconds into the day, spelled.
 fn spell(date: Date, t: u64) -> [u8; 24]
-    requires { ⌜ (date .year ≤ 9999) × (date .month ≤ 12) × (date .day ≤ 31) × (t < 86400000) ⌝ }
-    ensures { λ r. ⌜ r ≡ utcText (civilOn (date .year) (date .month) (date .day) t) ⌝ }
+    requires { ⌜ (date .century ≤ 99) × (date .year ≤ 99) × (date .month ≤ 12) × (date .day ≤ 31) × (t < 86400000) ⌝ }
+    ensures { λ r. ⌜ r ≡ utcText (civilOn (date .century * 100 + date .year) (date .month) (date .day) t) ⌝ }
 {
+    let century = date.century;
     let year = date.year;
     let month = date.month;
     let day = date.day;
-    let decade = year / 10;
-    let century = decade / 10;
     let hour = t / 3600000;
     let minute = t / 60000 % 60;
     let second = t / 1000 % 60;
@@ -55,7 +54,7 @@ fn spell(date: Date, t: u64) -> [u8; 24]
     let text = [
         tens(century),
         ones(century),
-        ones(decade),
+        tens(year),
         ones(year),
         b'-',
         tens(month),

@@ -2,7 +2,6 @@
 use mathlib.Core.List.{List, _++_}
 use Prim.Native.Nat.{ℕ}
 use lib.ListN.{length, take, drop}
-use lib.Seq.{take-length}
 use mathlib.Core.Bool.{Bool}
 use lib.IntN.{ℤ}
 use mir.Val.{SFits, toZ, ofZ}

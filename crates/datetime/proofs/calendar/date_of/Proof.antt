@@ -1,6 +1,8 @@
 -- `date_of`: year, month and day as the definitions find them, step by step.
-use Rattle.datetime.proofs.Formulas.{began, within, month-over, date-found, day-small}
-use native.Mathlib.Omega.{arith}
+use mathlib.Core.Path.{sym, _∙_}
+use Prim.Native.Nat.{suc-le-suc, _+_, _*_}
+use Rattle.datetime.proofs.Formulas.{began, within, date-found}
+use Rattle.datetime.proofs.Texts.{leap-halves}
 use borrow.Author.Needs.{needs}
 use Rattle.datetime.proofs.calendar.date_of.Statement.{statement}
 use Rattle.datetime.proofs.calendar.date_of.Tie as tie
@@ -16,43 +18,32 @@ before-year-requires c κs = search needs
 
 sub-k : tie.Need-sub-k
 sub-k c = let s = c .before .before .before in
-    began (s .args .n) (c .before .before .year-of .result) (c .before-year .result) (s .pre .1)
-    (c .before .before .year-of .ensures .0) (c .before-year .ensures .0)
+    let y = c .before .before .year-of in
+    began (s .args .n) (y .result .century * 100 + y .result .year) (c .before-year .result) (s .pre .1) (y .ensures .0)
+    (c .before-year .ensures .0)
 
 month-of-requires : tie.Need-month-of-requires
 month-of-requires c κs = let s = c .before .before .before in
-    within (s .args .n) (c .before .before .year-of .result) (c .before-year .result) (s .pre .1)
-    (c .before .before .year-of .ensures .0) (c .before-year .ensures .0)
-    (c .before .leap .result) (c .before .leap .ensures)
+    let y = c .before .before .year-of in
+    within (s .args .n) (y .result .century * 100 + y .result .year) (c .before-year .result) (s .pre .1) (y .ensures .0)
+    (c .before-year .ensures .0) (c .before .leap .result)
+    (c .before .leap .ensures ∙ sym (leap-halves (y .result .century) (y .result .year) (suc-le-suc (y .ensures .2))))
 
-before-month-requires : tie.Need-before-month-requires
-before-month-requires c κs = search needs
-
-sub-day : tie.Need-sub-day
-sub-day c = let s = c .before .before .before .before .before in
-    let y = c .before .before .before .before in
-    month-over (s .args .n) (y .year-of .result) (c .before .before .before-year .result) (s .pre .1) (y .year-of .ensures .0)
-    (c .before .before .before-year .ensures .0)
-    (c .before .before .before .leap .result) (c .before .before .before .leap .ensures) (c .before .month-of .result)
-    (c .before-month .result)
-    (c .before .month-of .ensures .0) (c .before-month .ensures .0)
-
-add-day : tie.Need-add-day
-add-day c = search needs
+day-of-requires : tie.Need-day-of-requires
+day-of-requires c κs = month-of-requires (c .before) κs
 
 returns : tie.Need-returns
 returns c = let s = c .before .before .before .before .before in
     let y = c .before .before .before .before .year-of in
     let b = c .before .before .before-year in
-    let l = c .before .before .before .leap in
-    let m = c .before .month-of in
-    let p = c .before-month in (
-      date-found (s .args .n) (y .result) (b .result) (s .pre .1) (y .ensures .0) (b .ensures .0) (l .result) (l .ensures) (m .result)
-          (p .result) (m .ensures .0) (p .ensures .0),
+    let l = c .before .before .before .leap in (
+      date-found (s .args .n) (y .result .century * 100 + y .result .year) (b .result) (s .pre .1) (y .ensures .0) (b .ensures .0)
+          (l .result) (l .ensures ∙ sym (leap-halves (y .result .century) (y .result .year) (suc-le-suc (y .ensures .2))))
+          (c .before .month-of .result) (c .day-of .result) (c .before .month-of .ensures .0) (c .day-of .ensures .0),
+      y .ensures .1,
       y .ensures .2,
-      m .ensures .2,
-      day-small (s .args .n) (y .result) (b .result) (s .pre .1) (y .ensures .0) (b .ensures .0) (l .result) (l .ensures) (m .result)
-          (p .result) (m .ensures .0) (p .ensures .0),
+      c .before .month-of .ensures .2,
+      c .day-of .ensures .1,
     )
 
 pub date-of-spec : {M : Type 1} → statement M
@@ -64,7 +55,5 @@ date-of-spec =
     before-year-requires
     sub-k
     month-of-requires
-    before-month-requires
-    sub-day
-    add-day
+    day-of-requires
     returns)

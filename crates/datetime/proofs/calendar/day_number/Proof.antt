@@ -1,9 +1,10 @@
 -- `day_number`: the parts are those of the definition.
 use native.Mathlib.Omega.{arith}
-use mathlib.Core.Path.{ap₂, ap, _∙_}
+use mathlib.Core.Path.{ap₂, ap, sym, _∙_}
 use mathlib.Core.Bool.{Bool}
-use Prim.Native.Nat.{ℕ, _+_, _-_}
+use Prim.Native.Nat.{ℕ, suc-le-suc, _+_, _-_}
 use Rattle.datetime.specs.Calendar.{monthDays, before}
+use Rattle.datetime.proofs.Texts.{leap-halves}
 use borrow.Author.Needs.{needs}
 use Rattle.datetime.proofs.calendar.day_number.Statement.{statement}
 use Rattle.datetime.proofs.calendar.day_number.Tie as tie
@@ -27,11 +28,14 @@ add-result-2 : tie.Need-add-result-2
 add-result-2 c = search needs
 
 returns : tie.Need-returns
-returns c = let a = c .before .before .before .args in (
-  ap₂ (λ (x z : ℕ). x + z + (a .d - 1)) (c .before .before .before-year .ensures .0)
-      (c .before-month .ensures .0 ∙ ap (λ (l : Bool). before (monthDays l) (a .m)) (c .before .leap .ensures)),
-  omega arith,
-)
+returns c = let s = c .before .before .before in
+    let a = s .args in (
+      ap₂ (λ (x z : ℕ). x + z + (a .d - 1)) (c .before .before .before-year .ensures .0)
+          (c .before-month .ensures .0
+          ∙ ap (λ (l : Bool). before (monthDays l) (a .m)) (c .before .leap .ensures ∙ sym (leap-halves (a .c) (a .x) (suc-le-suc
+          (s .pre .1))))),
+      omega arith,
+    )
 
 pub day-number-spec : {M : Type 1} → statement M
 day-number-spec =

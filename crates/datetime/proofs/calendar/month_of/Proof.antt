@@ -1,6 +1,5 @@
 -- `month_of`: the formula is the definition at each day of a year, by a computed test.
 use native.Mathlib.Omega.{arith}
-use borrow.Author.Needs.{needs}
 use mathlib.Core.Path.{ap, _∙_}
 use Prim.Native.Nat.{ℕ, _+_, _*_, _/_}
 use Rattle.datetime.proofs.Formulas.{month-at}

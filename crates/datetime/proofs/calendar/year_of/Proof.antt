@@ -1,35 +1,33 @@
--- `year_of`: the guess is the year of the day or the one before it.
-use native.Mathlib.Omega.{arith}
-use mathlib.Core.Path.{subst, _∙_}
-use Prim.Native.Nat.{ℕ, _≤_, _<_}
-use Rattle.datetime.proofs.Days.{before-year}
-use Rattle.datetime.proofs.Formulas.{year-next, year-guess}
+-- `year_of`: the day lies in the year of its century that the formula gives.
+use mathlib.Core.Path.{refl}
+use Rattle.datetime.proofs.Formulas.{year-in}
 use borrow.Author.Needs.{needs}
 use Rattle.datetime.proofs.calendar.year_of.Statement.{statement}
 use Rattle.datetime.proofs.calendar.year_of.Tie as tie
 
-mul-guess : tie.Need-mul-guess
-mul-guess c = search needs
+century-of-requires : tie.Need-century-of-requires
+century-of-requires c κs = search needs
 
-sub-guess : tie.Need-sub-guess
-sub-guess c = search needs
+before-century-requires : tie.Need-before-century-requires
+before-century-requires c κs = search needs
 
-add-next : tie.Need-add-next
-add-next c = search needs
+sub-day : tie.Need-sub-day
+sub-day c = search needs
 
-before-year-requires : tie.Need-before-year-requires
-before-year-requires c κs = search needs
+filled-requires : tie.Need-filled-requires
+filled-requires c κs = search needs
+
+mul-year : tie.Need-mul-year
+mul-year c = search needs
 
 returns : tie.Need-returns
-returns c = let n = c .before .before .args .n in
-    year-next n (c .before .before .pre .0) (c .before .before .pre .1)
-    (subst (λ (x : ℕ). x ≤ n) (c .before .before-year .ensures .0 ∙ before-year _) (c .if1 .taken))
-
-returns-2 : tie.Need-returns-2
-returns-2 c = let n = c .before .before .args .n in
-    year-guess n (c .before .before .pre .0) (c .before .before .pre .1)
-    (subst (λ (x : ℕ). n < x) (c .before .before-year .ensures .0 ∙ before-year _) (c .if1 .left))
+returns c = let s = c .before .before .before in
+    let at = c .before .before .century-of in
+    let found = year-in (s .args .n) (s .pre .0) (s .pre .1) (at .result) (c .before .before-century .result) (c .filled .result) _
+    (at .ensures .0) (c .before .before-century .ensures .0) (c .filled .ensures .0) refl in
+    (found .0, at .ensures .1, found .1)
 
 pub year-of-spec : {M : Type 1} → statement M
 year-of-spec =
-    tie.close (tie.spec mul-guess sub-guess add-next before-year-requires returns returns-2)
+    tie.close
+    (tie.spec century-of-requires before-century-requires sub-day filled-requires mul-year returns)

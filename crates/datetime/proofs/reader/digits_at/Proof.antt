@@ -1,43 +1,18 @@
--- `digits_at`: two digits, one after the other.
-use native.Mathlib.Nat.{add-zero}
-use native.Mathlib.Omega.{arith}
+-- `digits_at`: two digits that were tested show their number.
+use mathlib.Core.Path.{subst⁻¹, _∙_}
+use Prim.Native.Nat.{ℕ, _<_}
+use Rattle.datetime.proofs.Quick.{shown-number}
 use borrow.Author.Needs.{needs}
 use Rattle.datetime.proofs.reader.digits_at.Statement.{statement}
 use Rattle.datetime.proofs.reader.digits_at.Tie as tie
 
-shared-slice-read-digit : tie.Need-shared-slice-read-digit
-shared-slice-read-digit c = search needs
-
-digit-requires : tie.Need-digit-requires
-digit-requires c κs = search needs
-
-mul-result : tie.Need-mul-result
-mul-result c = search needs
-
-add-digit : tie.Need-add-digit
-add-digit c = search needs
-
-shared-slice-read-digit-2 : tie.Need-shared-slice-read-digit-2
-shared-slice-read-digit-2 c = search needs
-
-digit-requires-2 : tie.Need-digit-requires-2
-digit-requires-2 c κs = search needs
-
-add-result : tie.Need-add-result
-add-result c = search needs
+two-at-requires : tie.Need-two-at-requires
+two-at-requires c κs = search needs
 
 returns : tie.Need-returns
-returns c = (rw (add-zero (c .before .before .before .before .before .args .i)) (omega arith), omega arith)
+returns c = let s = c .before .before in
+    let e = c .two-at .ensures .0 in
+    (e ∙ shown-number (s .args .s .now) (s .args .i) (s .pre .1), subst⁻¹ (λ (n : ℕ). n < 100) e (s .pre .1))
 
 pub digits-at-spec : {M : Type 1} → statement M
-digits-at-spec =
-    tie.close
-    (tie.spec
-    shared-slice-read-digit
-    digit-requires
-    mul-result
-    add-digit
-    shared-slice-read-digit-2
-    digit-requires-2
-    add-result
-    returns)
+digits-at-spec = tie.close (tie.spec two-at-requires returns)

@@ -1,88 +1,78 @@
 -- `instant`: local time less the epoch, with the offset on the side that its sign says.
-use Rattle.datetime.proofs.Values.{long-of, offset-of, ahead, behind, neither}
-use mathlib.Core.Path.{refl, sym, ap, _∙_}
+use mathlib.Core.Path.{refl, sym, _∙_}
 use mir.Facts.{toZ-ofZ}
 use borrow.Author.Tests.{eqb-false}
-use Prim.Native.Nat.{ℕ}
-use Rattle.octets.proofs.Lists.{bytes}
 use native.Mathlib.Omega.{arith}
+use Rattle.datetime.proofs.Quick.{parts, signed, ends-utc, ends-away}
+use Rattle.datetime.proofs.Values.{ahead, behind, neither}
 use borrow.Author.Needs.{needs}
 use Rattle.datetime.proofs.reader.instant.Statement.{statement}
 use Rattle.datetime.proofs.reader.instant.Tie as tie
 
 local-time-requires : tie.Need-local-time-requires
-local-time-requires c κs = let known = c in
-    let s = known .before .args .s .now in
-    let ok = bytes s (λ (k : ℕ). known .shared-slice-known .given k .fits) in
-    (long-of s ok (known .before .pre), known .before .pre)
-
-shared-slice-read-sign : tie.Need-shared-slice-read-sign
-shared-slice-read-sign c = let known = c .before .before in
-    let s = known .before .args .s .now in
-    let ok = bytes s (λ (k : ℕ). known .shared-slice-known .given k .fits) in
-    long-of s ok (known .before .pre)
-
-offset-requires : tie.Need-offset-requires
-offset-requires c κs = let known = c .before .before .before in
-    let s = known .before .args .s .now in
-    let ok = bytes s (λ (k : ℕ). known .shared-slice-known .given k .fits) in
-    offset-of s ok (known .before .pre) (λ e. eqb-false 90 43 refl (sym e ∙ c .if1 .taken))
-
-add-difference : tie.Need-add-difference
-add-difference c = search needs
+local-time-requires c κs = parts (c .before .args .s .now) (c .before .pre)
 
 difference-requires : tie.Need-difference-requires
 difference-requires c κs = search needs
 
 returns : tie.Need-returns
-returns c = let local = c .before .before .before .before .local-time in
+returns c = let s = c .before .before .before .before in
+    let local = c .before .before .local-time in
+    let z = ends-utc (s .args .s .now) (s .pre) (c .before .if1 .taken) in
     toZ-ofZ (record { sfits = c .difference .ok })
     ∙ c .difference .ensures
-    ∙ ahead (c .before .before .before .before .before .before .args .s .now) (local .result) (local .ensures .0)
-    (c .before .before .if1 .taken) (c .before .offset .result) (c .before .offset .ensures .0)
+    ∙ neither (s .args .s .now) (local .result) (local .ensures .0) (λ e. eqb-false 90 43 refl (sym z ∙ e))
+    (λ e. eqb-false 90 45 refl (sym z ∙ e))
 
-offset-requires-2 : tie.Need-offset-requires-2
-offset-requires-2 c κs = let known = c .before .before .before .before in
-    let s = known .before .args .s .now in
-    let ok = bytes s (λ (k : ℕ). known .shared-slice-known .given k .fits) in
-    offset-of s ok (known .before .pre) (λ e. eqb-false 90 45 refl (sym e ∙ c .if2 .taken))
+offset-requires : tie.Need-offset-requires
+offset-requires c κs = let s = c .before .before .before in ends-away (s .args .s .now) (s .pre) (c .if1 .left)
 
-add-difference-2 : tie.Need-add-difference-2
-add-difference-2 c = search needs
+shared-slice-read-sign : tie.Need-shared-slice-read-sign
+shared-slice-read-sign c = let s = c .before .before .before .before .before in
+    omega (arith, parts (s .args .s .now) (s .pre) .0)
+
+add-difference : tie.Need-add-difference
+add-difference c = search needs
 
 difference-requires-2 : tie.Need-difference-requires-2
 difference-requires-2 c κs = search needs
 
 returns-2 : tie.Need-returns-2
-returns-2 c = let local = c .before .before .before .before .before .local-time in
+returns-2 c = let s = c .before .before .before .before .before .before .before in
+    let local = c .before .before .before .before .before .local-time in
+    let away = c .before .before .before .offset in
     toZ-ofZ (record { sfits = c .difference2 .ok })
     ∙ c .difference2 .ensures
-    ∙ behind (c .before .before .before .before .before .before .before .args .s .now) (local .result) (local .ensures .0)
-    (c .before .before .if2 .taken) (c .before .offset2 .result) (c .before .offset2 .ensures .0)
+    ∙ ahead (s .args .s .now) (local .result) (local .ensures .0) (c .before .if2 .taken) (away .result) (away .ensures .0)
+
+add-difference-2 : tie.Need-add-difference-2
+add-difference-2 c = search needs
 
 difference-requires-3 : tie.Need-difference-requires-3
 difference-requires-3 c κs = search needs
 
 returns-3 : tie.Need-returns-3
-returns-3 c = let local = c .before .before .before .before .local-time in
+returns-3 c = let s = c .before .before .before .before .before .before .before in
+    let local = c .before .before .before .before .before .local-time in
+    let away = c .before .before .before .offset in
+    let minus = signed (s .args .s .now) (ends-away (s .args .s .now) (s .pre) (c .before .before .before .before .if1 .left) .1)
+    (c .before .if2 .left) in
     toZ-ofZ (record { sfits = c .difference3 .ok })
     ∙ c .difference3 .ensures
-    ∙ neither (c .before .before .before .before .before .before .args .s .now) (local .result) (local .ensures .0)
-    (c .before .before .if1 .left) (c .before .if2 .left)
+    ∙ behind (s .args .s .now) (local .result) (local .ensures .0) minus (away .result) (away .ensures .0)
 
 pub instant-spec : {M : Type 1} → statement M
 instant-spec =
     tie.close
     (tie.spec
     local-time-requires
-    shared-slice-read-sign
-    offset-requires
-    add-difference
     difference-requires
     returns
-    offset-requires-2
-    add-difference-2
+    offset-requires
+    shared-slice-read-sign
+    add-difference
     difference-requires-2
     returns-2
+    add-difference-2
     difference-requires-3
     returns-3)

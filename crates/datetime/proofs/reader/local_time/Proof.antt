@@ -1,36 +1,34 @@
--- `local_time`: a text of the form has its fields in their ranges.
-use Prim.Native.Nat.{ℕ}
-use Rattle.octets.proofs.Lists.{bytes}
-use Rattle.datetime.proofs.Values.{valid-of, date-ranges, time-counted}
+-- `local_time`: the numbers of a date that was tested are in their ranges.
 use native.Mathlib.Omega.{arith}
+use Rattle.datetime.proofs.Quick.{dated, date-ranges}
+use Rattle.datetime.proofs.Values.{time-counted}
 use borrow.Author.Needs.{needs}
 use Rattle.datetime.proofs.reader.local_time.Statement.{statement}
 use Rattle.datetime.proofs.reader.local_time.Tie as tie
 
 digits-at-requires : tie.Need-digits-at-requires
-digits-at-requires c κs = search needs
-
-mul-year : tie.Need-mul-year
-mul-year c = search needs
+digits-at-requires c κs = let s = c .before in (omega arith, dated (s .args .s .now) (s .pre .1) .0)
 
 digits-at-requires-2 : tie.Need-digits-at-requires-2
-digits-at-requires-2 c κs = search needs
-
-add-year : tie.Need-add-year
-add-year c = search needs
+digits-at-requires-2 c κs = let s = c .before .before in (omega arith, dated (s .args .s .now) (s .pre .1) .1)
 
 digits-at-requires-3 : tie.Need-digits-at-requires-3
-digits-at-requires-3 c κs = search needs
+digits-at-requires-3 c κs = let s = c .before .before .before in (omega arith, omega (arith, dated (s .args .s .now) (s .pre .1) .3))
 
 digits-at-requires-4 : tie.Need-digits-at-requires-4
-digits-at-requires-4 c κs = search needs
+digits-at-requires-4 c κs = let s = c .before .before .before .before in (
+  omega arith,
+  omega (
+    arith,
+    dated (s .args .s .now) (s .pre .1)
+        .5,
+  ),
+)
 
 day-number-requires : tie.Need-day-number-requires
-day-number-requires c κs = let s = c .before .before .before .before .before .args .s .now in
-    let known = c .before .before .before .before in
-    date-ranges s _ _ _ _ (c .before .before .before .digits-at .ensures .0) (c .before .before .digits-at2 .ensures .0)
-    (c .before .digits-at3 .ensures .0)
-    (c .digits-at4 .ensures .0) (valid-of s (bytes s (λ (k : ℕ). known .shared-slice-known .given k .fits)) (known .before .pre .1))
+day-number-requires c κs = let s = c .before .before .before .before .before in
+    let r = date-ranges (s .args .s .now) (s .pre .1) _ _ (c .before .digits-at3 .ensures .0) (c .digits-at4 .ensures .0) in
+    (omega arith, omega arith, r .0, r .1, r .2, r .3)
 
 mul-result : tie.Need-mul-result
 mul-result c = search needs
@@ -55,9 +53,7 @@ local-time-spec =
     tie.close
     (tie.spec
     digits-at-requires
-    mul-year
     digits-at-requires-2
-    add-year
     digits-at-requires-3
     digits-at-requires-4
     day-number-requires

@@ -16,12 +16,6 @@ two-at-requires-3 c κs = search needs
 two-at-requires-4 : tie.Need-two-at-requires-4
 two-at-requires-4 c κs = search needs
 
-mul-leap : tie.Need-mul-leap
-mul-leap c = search needs
-
-add-leap : tie.Need-add-leap
-add-leap c = search needs
-
 leap-requires : tie.Need-leap-requires
 leap-requires c κs = search needs
 
@@ -34,11 +28,9 @@ returns c = rw (
   c .month-days .ensures,
   c .before .leap .ensures,
   c .before .before .two-at4 .ensures .0,
-  c .before .before .before
-      .two-at3 .ensures .0,
+  c .before .before .before .two-at3 .ensures .0,
   c .before .before .before .before .two-at2 .ensures .0,
-  c .before .before .before .before .before .two-at
-      .ensures .0,
+  c .before .before .before .before .before .two-at .ensures .0,
 )
 
 pub plain-date-spec : {M : Type 1} → statement M
@@ -49,8 +41,6 @@ plain-date-spec =
     two-at-requires-2
     two-at-requires-3
     two-at-requires-4
-    mul-leap
-    add-leap
     leap-requires
     month-days-requires
     returns)

@@ -1,7 +1,7 @@
 -- `put`: after i turns the front of the buffer is the front of the text, and the rest is as it was.
 use borrow.Author.Needs.{needs}
 use native.Mathlib.Omega.{arith}
-use mathlib.Core.Path.{_≡_, refl, sym, ap, _∙_}
+use mathlib.Core.Path.{_≡_, refl, ap, _∙_}
 use mathlib.Core.List.{List, _++_}
 use Prim.Native.Nat.{ℕ, _≤_, _-_}
 use lib.ListN.{length, take, drop, length-set}

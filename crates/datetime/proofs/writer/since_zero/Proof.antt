@@ -1,7 +1,7 @@
 -- `since_zero`: within the writer's ends the sum is no smaller than 0.
-use mathlib.Core.Path.{_∙_, sym, subst⁻¹}
+use mathlib.Core.Path.{_∙_, subst⁻¹}
 use Prim.Native.Nat.{ℕ, _≤_, _<_}
-use Rattle.datetime.proofs.Signed.{Since, since, sum-fits, moved-fits, moved-is, count-is}
+use Rattle.datetime.proofs.Signed.{since, sum-fits, moved-fits, moved-is, count-is}
 use Rattle.datetime.proofs.writer.since_zero.Statement.{statement}
 use Rattle.datetime.proofs.writer.since_zero.Tie as tie
 
