@@ -56,9 +56,10 @@ many() {
     [ "$status" -eq 0 ] || tail -n 40 "build/$name.log"
 }
 
-second() {
+# in a shell of its own, so that the folder stays
+second() (
     rt staticlib probe && cd tests && cargo run --release --offline
-}
+)
 
 need gcc gcc
 need cargo cargo
