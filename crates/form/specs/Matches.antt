@@ -18,9 +18,8 @@ pub data Matches : Re → List ℕ → Type 0 where
 abbrev pub Begins : List ℕ → List ℕ → Type 0
 Begins u t = (w : List ℕ) × (t ≡ u ++ w)
 
--- 02, L1: "the offset in that field of the first byte at which no text of the form can go on": no text that begins with the first n + 1
--- bytes
--- matches, and some text that begins with the first n does
+-- 02, L1: "the offset in that field of the first byte at which no text of the form can go on":
+-- no text that begins with the first n + 1 bytes matches, and some text that begins with the first n does
 pub record StopsInside (r : Re) (s : List ℕ) (n : ℕ) : Type 0 where
   pub inside : n < length s
   pub dead : (t : List ℕ) → Begins (take (suc n) s) t → Matches r t → ⊥
