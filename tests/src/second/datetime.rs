@@ -5,7 +5,7 @@ use super::expression::Form;
 use super::{decimal, with_room, Reading, Writing, INSTANT_OUTSIDE};
 use std::sync::LazyLock;
 
-/// 001, listing 12 (READINGS, F4: the copy of 000's listing 24 is damaged).
+/// 001, listing 12 (the copy in 000, listing 24, is damaged).
 const LISTING: &str = concat!(
     r"^(?:[1-9]\d{3}-(?:(?:0[1-9]|1[0-2])-(?:0[1-9]|1\d|2[0-8])|(?:0[13-9]|1[0-2])-",
     r"(?:29|30)|(?:0[13578]|1[02])-31)|(?:[1-",

@@ -21,7 +21,7 @@ pub enum Form {
 use Form::{Byte, Either, Empty, Nothing, Then, Times};
 
 impl Form {
-    /// The form that a listing prints, from `^` to `$`. `$` is the very end and `\d` is 0 to 9 (READINGS, F3).
+    /// The form that a listing prints, from `^` to `$`. `$` is the very end and `\d` is 0 to 9.
     pub fn published(listing: &str) -> Form {
         let inner = listing.strip_prefix('^').and_then(|rest| rest.strip_suffix('$'));
         let mut parser = Parser { rest: inner.expect("a listing goes from ^ to $").as_bytes() };

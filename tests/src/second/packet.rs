@@ -8,7 +8,7 @@ use std::sync::LazyLock;
 /// 000, listing 27 (001's listing 15 is empty in the copy). The limit of length stands beside it.
 const LISTING: &str = "^[A-Za-z0-9-_]+[=]{0,2}$";
 
-/// The `=` are counted (READINGS, F9).
+/// The `=` count among the 32,768.
 pub const MOST: usize = 32_768;
 
 static FORM: LazyLock<Form> = LazyLock::new(|| Form::published(LISTING));

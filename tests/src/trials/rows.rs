@@ -96,7 +96,7 @@ fn amounts(group: &mut Group) -> Result<(), Difference> {
     })
 }
 
-/// 01, "Both sides of each limit", and READINGS F5 to F7.
+/// 01, "Both sides of each limit", and rows beside them.
 fn instants(group: &mut Group) -> Result<(), Difference> {
     let rows: [(&str, Reading<i64>); 17] = [
         ("2016-05-24T08:38:08.699Z", Ok(1_464_079_088_699)),
