@@ -1,7 +1,8 @@
+pub mod Tests
 pub mod Hex
+pub mod Row
 pub mod Letters
-pub mod Grouped
-pub mod WellMade
+pub mod Walk
 pub mod Spelled
 pub mod Theorems
 pub mod Answers

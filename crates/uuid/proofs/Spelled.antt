@@ -10,7 +10,7 @@ use lib.Seq.{sets}
 use Rattle.octets.proofs.Computed.{below, below-at}
 use Rattle.octets.proofs.Lists.{sets-append}
 use Rattle.uuid.specs.Id.{hexChar, pairText, byteText, textBefore, idText}
-use Rattle.uuid.specs.Quick.{hexDigits, pairsOf, dashedPairs, frontText, backText}
+use Rattle.uuid.specs.Groups.{hexDigits, pairsOf, dashedPairs, frontText, backText}
 
 digits-tested : T (below 16 (λ n. eqb (getD hexDigits n 0) (hexChar n)))
 unfolding hexDigits

@@ -45,8 +45,20 @@ use Rattle.uuid.specs.Id.{
   inForm,
   writeId,
 }
-use Rattle.uuid.proofs.Hex.{char-value, value-small, value-char, hex-byte}
-use Rattle.uuid.proofs.WellMade.{sofar, versionRule, variantRule, WellMade, from-listing}
+use Rattle.uuid.proofs.Tests.{only-if, and-parts, to-test}
+use Rattle.uuid.proofs.Hex.{char-value, value-small, value-char}
+use Rattle.uuid.proofs.Letters.{
+  form-bytes,
+  letters,
+  high-hex,
+  low-hex,
+  sofar,
+  versionRule,
+  variantRule,
+  dash-at,
+  version-at,
+  variant-at,
+}
 use Rattle.uuid.proofs.Spelled.{step}
 
 abbrev Reads : List ℕ → List ℕ → Type 0
@@ -90,18 +102,6 @@ ends-from b small ok (suc j) k e =
     (ends-from b small ok j (suc k) (omega arith))
 
 -- a list of bytes that the writer takes has its version and variant
-only-if : (t r : Bool) → cond t r false ≡ true → (t ≡ true) × (r ≡ true)
-only-if true r e = (refl, e)
-only-if false r e = absurd (let z : _≡_ {A = ℕ} 0 1 = cc in omega arith)
-
-and-parts : (a b : Bool) → a && b ≡ true → (a ≡ true) × (b ≡ true)
-and-parts true b e = (refl, e)
-and-parts false true e = (e, refl)
-and-parts false false e = (e, e)
-
-to-test : {a : Bool} → a ≡ true → T a
-to-test e = subst⁻¹ T e tt
-
 module _ (b : List ℕ) (e : inForm b ≡ true) where
   tests : (leb 1 (getD b 6 0 / 16) && leb (getD b 6 0 / 16) 5) && leb 8 (getD b 8 0 / 16) && leb (getD b 8 0 / 16) 11 ≡ true
   tests = only-if (eqb (length b) 16) _ e .1
@@ -219,15 +219,15 @@ unfolding readId
 fits-reads s e = ap (λ (v : Verdict). answer v (idOf s)) e
 
 -- what a text of the form says of the bytes
-module _ (s : List ℕ) (w : WellMade s) where
+module _ (s : List ℕ) (e : judge idForm s ≡ Fits) where
   halves : (k : ℕ) → k < 16 → (byteAt s k / 16 ≡ hexValue (getD s (placeOf k) 0)) × (byteAt s k % 16 ≡ hexValue (getD s (placeOf k + 1)
       0)) × (byteAt s k < 256)
   unfolding byteAt
   halves k h =
       let x = hexValue (getD s (placeOf k) 0) in
       let y = hexValue (getD s (placeOf k + 1) 0) in
-      let a : x < 16 = value-small (getD s (placeOf k) 0) (hex-byte (getD s (placeOf k) 0) (w .high k h)) (w .high k h) in
-      let b : y < 16 = value-small (getD s (placeOf k + 1) 0) (hex-byte (getD s (placeOf k + 1) 0) (w .low k h)) (w .low k h) in
+      let a : x < 16 = value-small (getD s (placeOf k) 0) (byte-at s (form-bytes s e) (placeOf k)) (high-hex s e k h) in
+      let b : y < 16 = value-small (getD s (placeOf k + 1) 0) (byte-at s (form-bytes s e) (placeOf k + 1)) (low-hex s e k h) in
       (omega arith, omega arith, omega arith)
 
   at : (k : ℕ) → k < 16 → getD (idOf s) k 0 ≡ byteAt s k
@@ -253,30 +253,30 @@ module _ (s : List ℕ) (w : WellMade s) where
   pub id-in-form : inForm (idOf s) ≡ true
   id-in-form =
       let v = and-parts (leb 1 (hexValue (getD s 14 0))) (leb (hexValue (getD s 14 0)) 5) (is-true (versionRule (getD s 14 0))
-      (w .version)) in
+      (version-at s e)) in
       let u = and-parts (leb 8 (hexValue (getD s 19 0))) (leb (hexValue (getD s 19 0)) 11) (is-true (variantRule (getD s 19 0))
-      (w .variant)) in
+      (variant-at s e)) in
       rw (eq-eqb (length (idOf s)) 16 id-long, first-digit 6 (omega arith), first-digit 8 (omega arith), v .0, v .1, u .0, u .1)
 
   -- the text of byte k is what stands in the text there
   pair-here : (k : ℕ) → k < 16 → pairText (byteAt s k) ≡ getD s (placeOf k) 0 ∷ getD s (placeOf k + 1) 0 ∷ []
   pair-here k h =
       let v = halves k h in
-      let high : hexChar (byteAt s k / 16) ≡ getD s (placeOf k) 0 = ap hexChar (v .0) ∙ char-value (getD s (placeOf k) 0) (hex-byte
-      (getD s (placeOf k) 0) (w .high k h)) (w .high k h) in
+      let high : hexChar (byteAt s k / 16) ≡ getD s (placeOf k) 0 = ap hexChar (v .0) ∙ char-value (getD s (placeOf k) 0)
+      (byte-at s (form-bytes s e) (placeOf k)) (high-hex s e k h) in
       let low : hexChar (byteAt s k % 16) ≡ getD s (placeOf k + 1) 0 = ap hexChar (v .1) ∙ char-value (getD s (placeOf k + 1) 0)
-      (hex-byte (getD s (placeOf k + 1) 0) (w .low k h)) (w .low k h) in
+      (byte-at s (form-bytes s e) (placeOf k + 1)) (low-hex s e k h) in
       λ i. high i ∷ low i ∷ []
 
   two-here : (n : ℕ) → n + 2 ≤ 36 → take 2 (drop n s) ≡ getD s n 0 ∷ getD s (n + 1) 0 ∷ []
   two-here n h =
-      let a : n < length s = omega (arith, w .long) in
-      let b : suc n < length s = omega (arith, w .long) in
+      let a : n < length s = omega (arith, letters s e .0) in
+      let b : suc n < length s = omega (arith, letters s e .0) in
       rw (drop-cons s n 0 a, drop-cons s (suc n) 0 b, add-one n)
 
   three-here : (n : ℕ) → n + 3 ≤ 36 → take 3 (drop n s) ≡ getD s n 0 ∷ getD s (n + 1) 0 ∷ getD s (n + 2) 0 ∷ []
   three-here n h =
-      let a : n < length s = omega (arith, w .long) in
+      let a : n < length s = omega (arith, letters s e .0) in
       let l : suc n ≡ n + 1 = omega arith in
       let m : n + 1 + 1 ≡ n + 2 = omega arith in
       rw (drop-cons s n 0 a)
@@ -289,7 +289,7 @@ module _ (s : List ℕ) (w : WellMade s) where
 
   piece : (k : ℕ) → k < 16 → take (length (byteText k 0)) (drop (sofar k) s) ≡ byteText k (byteAt s k)
   piece k h =
-      go (dashBefore k) (sofar k) (w .dash k h) (place-is k h) (leb→le (sofar k + length (byteText k 0)) 36 (below-at 16 (λ i. leb
+      go (dashBefore k) (sofar k) (dash-at s e k h) (place-is k h) (leb→le (sofar k + length (byteText k 0)) 36 (below-at 16 (λ i. leb
       (sofar i + length (byteText i 0)) 36) rooms k h))
     where
       go : (d : Bool) (n : ℕ) → T (implies d (eqb (getD s n 0) 45)) → placeOf k ≡ n + cond d 1 0 → n + length (cond d (45 ∷ pairText 0)
@@ -316,11 +316,7 @@ module _ (s : List ℕ) (w : WellMade s) where
 
   pub text-is : idText (idOf s) ≡ s
   unfolding idText textBefore
-  text-is = text-so-far 16 (omega arith) ∙ take-all 36 s (omega (arith, w .long))
-
-  -- so it is of the form
-  pub well-made-fits : judge idForm s ≡ Fits
-  well-made-fits = ap (judge idForm) (sym text-is) ∙ text-fits (idOf s) id-in-form id-bytes
+  text-is = text-so-far 16 (omega arith) ∙ take-all 36 s (omega (arith, letters s e .0))
 
 -- form: the reader gives bytes exactly if the listing matches, and they are 16 bytes with a version 1 to 5 and a variant 8 to b
 pub form : (s : List ℕ) → (((b : List ℕ) × Reads s b) ↔ Matches idForm s)
@@ -330,7 +326,7 @@ form s =
 pub range : (s b : List ℕ) → Reads s b → (inForm b ≡ true) × Bytes b
 range s b r =
     let f = reads-fits s b r in
-    subst (λ (x : List ℕ). (inForm x ≡ true) × Bytes x) (f .1) (id-in-form s (from-listing s (f .0)), id-bytes s (from-listing s (f .0)))
+    subst (λ (x : List ℕ). (inForm x ≡ true) × Bytes x) (f .1) (id-in-form s (f .0), id-bytes s (f .0))
 
 -- round: the text written of bytes in form reads back as those bytes, and matches the listing
 pub round : (b : List ℕ) → inForm b ≡ true → Bytes b → Reads (idText b) b × Matches idForm (idText b)
@@ -341,7 +337,7 @@ round b e small =
 
 -- unique: the written text is the only one that reads to its bytes
 pub unique : (s b : List ℕ) → Reads s b → s ≡ idText b
-unique s b r = let f = reads-fits s b r in sym (text-is s (from-listing s (f .0))) ∙ ap idText (f .1)
+unique s b r = let f = reads-fits s b r in sym (text-is s (f .0)) ∙ ap idText (f .1)
 
 -- refused: the writer refuses with 1 exactly the bytes that no text reads to
 pub refused : (b : List ℕ) → Bytes b → (room : ℕ) → ((writeId b room ≡ NotInForm) ↔ ((s : List ℕ) → Reads s b → ⊥))

@@ -2,15 +2,17 @@
 use form::Verdict;
 use form::Written;
 ghost use mathlib.Core.Path.{_≡_};
-ghost use Prim.Native.Nat.{_+_, _*_, _≤_, _<_};
+ghost use mathlib.Core.Bool.{cond};
+ghost use Prim.Native.Nat.{_+_, _*_, _%_, _≤_, _<_, min};
 ghost use lib.ListN.{length};
 ghost use lib.Seq.{sets};
 ghost use Rattle.form.specs.Regex.{judge};
 ghost use Rattle.form.specs.Listings.{idForm};
 ghost use Rattle.form.specs.declared.Verdict.the-variants.{Fits};
 ghost use Rattle.form.specs.Writing.{bufferAfter};
-ghost use Rattle.uuid.specs.Quick.{digitOf, hexTable, hexDigits, pairsOf, dashedPairs, frontText, backText, marksOf, InRow, SoFar};
-ghost use Rattle.uuid.specs.Id.{hexChar, readId, idText, inForm, writeId};
+ghost use Rattle.uuid.specs.Id.{placeOf, hexChar, idOf, readId, idText, inForm, writeId};
+ghost use Rattle.uuid.specs.Row.{mayStand, Walked, StopsAt, digitOf};
+ghost use Rattle.uuid.specs.Groups.{hexDigits, pairsOf, dashedPairs, frontText, backText};
 
 // A text's verdict, and the bytes of a text of the form (zeros of any other).
 pub struct IdRead {
@@ -18,110 +20,136 @@ pub struct IdRead {
     pub id: [u8; 16],
 }
 
-// What the quick reader made of a text: whether it is of the form, and then its bytes.
-struct Quick {
-    ok: bool,
-    id: [u8; 16],
-}
-
-// The value of each hexadecimal digit, and 255 for any other byte.
-const HEX: [u8; 256] = *b"\
-    \xff\xff\xff\xff\xff\xff\xff\xff\xff\xff\xff\xff\xff\xff\xff\xff\xff\xff\xff\xff\xff\xff\xff\xff\xff\xff\xff\xff\xff\xff\xff\xff\
-    \xff\xff\xff\xff\xff\xff\xff\xff\xff\xff\xff\xff\xff\xff\xff\xff\x00\x01\x02\x03\x04\x05\x06\x07\x08\x09\xff\xff\xff\xff\xff\xff\
-    \xff\xff\xff\xff\xff\xff\xff\xff\xff\xff\xff\xff\xff\xff\xff\xff\xff\xff\xff\xff\xff\xff\xff\xff\xff\xff\xff\xff\xff\xff\xff\xff\
-    \xff\x0a\x0b\x0c\x0d\x0e\x0f\xff\xff\xff\xff\xff\xff\xff\xff\xff\xff\xff\xff\xff\xff\xff\xff\xff\xff\xff\xff\xff\xff\xff\xff\xff\
-    \xff\xff\xff\xff\xff\xff\xff\xff\xff\xff\xff\xff\xff\xff\xff\xff\xff\xff\xff\xff\xff\xff\xff\xff\xff\xff\xff\xff\xff\xff\xff\xff\
-    \xff\xff\xff\xff\xff\xff\xff\xff\xff\xff\xff\xff\xff\xff\xff\xff\xff\xff\xff\xff\xff\xff\xff\xff\xff\xff\xff\xff\xff\xff\xff\xff\
-    \xff\xff\xff\xff\xff\xff\xff\xff\xff\xff\xff\xff\xff\xff\xff\xff\xff\xff\xff\xff\xff\xff\xff\xff\xff\xff\xff\xff\xff\xff\xff\xff\
-    \xff\xff\xff\xff\xff\xff\xff\xff\xff\xff\xff\xff\xff\xff\xff\xff\xff\xff\xff\xff\xff\xff\xff\xff\xff\xff\xff\xff\xff\xff\xff\xff\
-    ";
-
-fn digit(hex: &[u8; 256], c: u8) -> u8
-    requires { ⌜ now hex ≡ hexTable ⌝ }
-    ensures { λ r. ⌜ r ≡ digitOf c ⌝ }
+// Whether the byte c may stand at this place of a text.
+fn may_stand(place: u8, c: u8) -> bool
+    ensures { λ r. ⌜ r ≡ mayStand place c ⌝ }
 {
-    let i = c as usize;
-    hex[i]
-}
-
-// Takes n bytes from k on, whose digits stand from place at on, without a dash between them.
-fn group(hex: &[u8; 256], s: &[u8], q: Quick, k: usize, n: usize, at: usize) -> Quick
-    requires { ⌜ (now hex ≡ hexTable) × InRow (now s) k n at × SoFar (now s) k q ⌝ }
-    ensures { λ r. ⌜ SoFar (now (s .entry)) (k + n) r ⌝ }
-{
-    let mut ok = q.ok;
-    let mut id = q.id;
-    let mut j: usize = 0;
-    while j < n {
-        let high = digit(hex, s[at + 2 * j]);
-        let low = digit(hex, s[at + 2 * j + 1]);
-        ok = ok & (high < 16) & (low < 16);
-        let byte = (high as u32) * 16 + (low as u32);
-        id[k + j] = (byte % 256) as u8;
-        j += 1;
+    if (place == 8) | (place == 13) | (place == 18) | (place == 23) {
+        return c == 45;
     }
-    Quick { ok, id }
-}
-
-// The five groups of digits.
-fn groups(s: &[u8]) -> Quick
-    requires { ⌜ length (now s) ≡ 36 ⌝ }
-    ensures { λ r. ⌜ SoFar (now (s .entry)) 16 r ⌝ }
-{
-    let hex = HEX;
-    let id = [0u8; 16];
-    let first = group(&hex, s, Quick { ok: true, id }, 0, 4, 0);
-    let second = group(&hex, s, first, 4, 2, 9);
-    let third = group(&hex, s, second, 6, 2, 14);
-    let fourth = group(&hex, s, third, 8, 2, 19);
-    group(&hex, s, fourth, 10, 6, 24)
-}
-
-// The dashes between the groups, and the version and the variant.
-fn marks(s: &[u8]) -> bool
-    requires { ⌜ length (now s) ≡ 36 ⌝ }
-    ensures { λ r. ⌜ r ≡ marksOf (now (s .entry)) ⌝ }
-{
-    let dashes = (s[8] == 45) & (s[13] == 45) & (s[18] == 45) & (s[23] == 45);
-    let version = (49 <= s[14]) & (s[14] <= 53);
-    let variant = (s[19] == 56) | (s[19] == 57) | (s[19] == 97) | (s[19] == 98);
-    dashes & version & variant
-}
-
-// A text that is not of the form: the table says where it stops.
-fn refused(s: &[u8]) -> IdRead
-    requires { ⌜ (judge idForm (now s) ≡ Fits → ⊥) ⌝ }
-    ensures { λ r. ⌜ r ≡ readId (now (s .entry)) ⌝ }
-{
-    let verdict = form::id_form(s);
-    let id = [0u8; 16];
-    IdRead { verdict, id }
-}
-
-fn read_36(s: &[u8]) -> IdRead
-    requires { ⌜ length (now s) ≡ 36 ⌝ }
-    ensures { λ r. ⌜ r ≡ readId (now (s .entry)) ⌝ }
-{
-    let quick = groups(s);
-    let ok = quick.ok;
-    let id = quick.id;
-    if ok & marks(s) {
-        return IdRead {
-            verdict: Verdict::Fits,
-            id,
-        };
+    if place == 14 {
+        return (49 <= c) & (c <= 53);
     }
-    refused(s)
+    if place == 19 {
+        return ((56 <= c) & (c <= 57)) | ((97 <= c) & (c <= 98));
+    }
+    ((48 <= c) & (c <= 57)) | ((97 <= c) & (c <= 102))
+}
+
+// The place, where the byte c is wrong there, and otherwise 36.
+fn if_wrong(place: u8, c: u8) -> u8
+    ensures { λ r. ⌜ r ≡ cond (mayStand place c) 36 place ⌝ }
+{
+    if may_stand(place, c) {
+        return 36;
+    }
+    place
+}
+
+fn least(a: u8, b: u8) -> u8
+    ensures { λ r. ⌜ r ≡ min a b ⌝ }
+{
+    if a < b {
+        return a;
+    }
+    b
+}
+
+// The first place from `start` to before `end` whose byte is wrong, and 36 if there is none. All are looked at: a loop without a way
+// out in its middle is compiled to a few operations on sixteen bytes each.
+fn first_wrong(s: &[u8], start: u8, end: u8) -> u8
+    requires { ⌜ end ≤ length (now s) ⌝ }
+    ensures { λ r. ⌜ Walked (now (s .entry)) start end r ⌝ }
+{
+    let mut first: u8 = 36;
+    let mut i = start;
+    while i < end {
+        let at = i as usize;
+        let found = if_wrong(i, s[at]);
+        first = least(first, found);
+        i += 1;
+    }
+    first
+}
+
+// Where the form stops: the first wrong place, or the end of the text, or the end of the form. A text that is long enough is walked in
+// two parts, the second of sixteen bytes, so that neither waits for the other.
+fn stop_of(s: &[u8]) -> u8
+    ensures { λ r. ⌜ StopsAt (now (s .entry)) r ⌝ }
+{
+    if s.len() < 36 {
+        let end = s.len() as u8;
+        let first = first_wrong(s, 0, end);
+        return least(first, end);
+    }
+    let front = first_wrong(s, 0, 20);
+    let back = first_wrong(s, 20, 36);
+    least(front, back)
+}
+
+// The place of byte k's first digit.
+fn place_of(k: usize) -> usize
+    requires { ⌜ k < 16 ⌝ }
+    ensures { λ r. ⌜ r ≡ placeOf k ⌝ }
+{
+    let digits = 2 * k;
+    if k < 4 {
+        return digits;
+    }
+    if k < 6 {
+        return digits + 1;
+    }
+    if k < 8 {
+        return digits + 2;
+    }
+    if k < 10 {
+        return digits + 3;
+    }
+    digits + 4
+}
+
+// The byte of two digits. The last four bits of a digit's code are its value for 0 to 9, whose codes are below 64, and its value less 9
+// for a to f, whose codes are above.
+fn pair_of(high: u8, low: u8) -> u8
+    ensures { λ r. ⌜ r ≡ digitOf high % 16 * 16 + digitOf low % 16 ⌝ }
+{
+    let first = high % 16 + high / 64 * 9;
+    let second = low % 16 + low / 64 * 9;
+    first % 16 * 16 + second % 16
+}
+
+// The bytes of a text of the form.
+fn bytes_of(s: &[u8]) -> [u8; 16]
+    requires { ⌜ judge idForm (now s) ≡ Fits ⌝ }
+    ensures { λ r. ⌜ r ≡ idOf (now (s .entry)) ⌝ }
+{
+    let mut id = [0u8; 16];
+    let mut k: usize = 0;
+    while k < 16 {
+        let at = place_of(k);
+        id[k] = pair_of(s[at], s[at + 1]);
+        k += 1;
+    }
+    id
 }
 
 // The bytes that the text says.
 pub fn read_id(s: &[u8]) -> IdRead
     ensures { λ r. ⌜ r ≡ readId (now (s .entry)) ⌝ }
 {
-    if s.len() == 36 {
-        return read_36(s);
+    let stop = stop_of(s) as usize;
+    if (stop == 36) & (s.len() == 36) {
+        let id = bytes_of(s);
+        return IdRead {
+            verdict: Verdict::Fits,
+            id,
+        };
     }
-    refused(s)
+    let id = [0u8; 16];
+    IdRead {
+        verdict: Verdict::Stops(stop),
+        id,
+    }
 }
 
 // The digit of a value below 16.

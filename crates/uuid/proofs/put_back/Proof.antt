@@ -1,6 +1,6 @@
 -- `uuid::put_back` meets its contract: two groups, one behind the other.
 use native.Mathlib.Omega.{arith}
-use Rattle.uuid.specs.Quick.{dashedPairs}
+use Rattle.uuid.specs.Groups.{dashedPairs}
 use Rattle.uuid.proofs.Spelled.{behind, back-long}
 use borrow.Author.Needs.{needs}
 use Rattle.uuid.proofs.put_back.Statement.{statement}

@@ -4,7 +4,7 @@ use Prim.Native.Nat.{ℕ}
 use native.Mathlib.Numerals.{add-one}
 use lib.ListN.{length, set, length-set}
 use lib.Seq.{sets, length-sets}
-use Rattle.uuid.specs.Quick.{pairsOf}
+use Rattle.uuid.specs.Groups.{pairsOf}
 use borrow.Author.Needs.{needs}
 use Rattle.uuid.proofs.put_dashed.Statement.{statement}
 use Rattle.uuid.proofs.put_dashed.Tie as tie

@@ -1,7 +1,7 @@
 -- `uuid::put_front` meets its contract: three groups, each behind the one before.
 use native.Mathlib.Omega.{arith}
 use mathlib.Core.List.{_++_}
-use Rattle.uuid.specs.Quick.{pairsOf, dashedPairs}
+use Rattle.uuid.specs.Groups.{pairsOf, dashedPairs}
 use Rattle.uuid.proofs.Spelled.{behind, front-long}
 use borrow.Author.Needs.{needs}
 use Rattle.uuid.proofs.put_front.Statement.{statement}

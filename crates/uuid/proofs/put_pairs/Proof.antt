@@ -4,7 +4,7 @@ use Prim.Native.Nat.{ℕ, _+_, _-_, _≤_}
 use native.Mathlib.Omega.{arith}
 use lib.ListN.{length, length-set}
 use lib.Seq.{sets}
-use Rattle.uuid.specs.Quick.{pairsOf}
+use Rattle.uuid.specs.Groups.{pairsOf}
 use Rattle.uuid.proofs.Spelled.{pair-step}
 use borrow.Author.Needs.{needs}
 use Rattle.uuid.proofs.put_pairs.Statement.{statement}

@@ -5,7 +5,7 @@ use Prim.Native.Nat.{ℕ}
 use native.Mathlib.Omega.{arith}
 use lib.ListN.{length}
 use lib.Seq.{sets, length-sets}
-use Rattle.uuid.specs.Quick.{hexDigits, frontText, backText}
+use Rattle.uuid.specs.Groups.{hexDigits, frontText, backText}
 use Rattle.uuid.proofs.Spelled.{behind, front-long, grouped}
 use borrow.Author.Needs.{needs}
 use Rattle.uuid.proofs.put_text.Statement.{statement}
