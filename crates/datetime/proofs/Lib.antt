@@ -1,11 +1,12 @@
 pub mod Examples
 pub mod Days
 pub mod Formulas
-pub mod Parts
+pub mod Onward
 pub mod Listing
+pub mod Passed
+pub mod Walk
 pub mod Texts
 pub mod Values
 pub mod Signed
-pub mod Quick
 pub mod Round
 pub mod Theorems

@@ -1,50 +1,34 @@
 -- A text is of listing 12's form exactly if it is a valid date and clock time, spelled, and a zone.
-use Prim.Native.Nat.{ℕ, suc, suc-le-suc, _+_, _*_, _/_, _%_, _≤_, _<_}
+use Prim.Native.Nat.{ℕ, zero, suc, _+_, _-_, _*_, _/_, _%_, _≤_, _<_}
 use Prim.Native.Char.{code}
 use native.Mathlib.Omega.{arith}
 use native.Mathlib.Decide.{ℕ-discrete}
-use mathlib.Core.Path.{_≡_, refl, sym, ap, subst, subst⁻¹, subst₂, _∙_}
-use mathlib.Core.Bool.{Bool, true, false, false≢true, not, cond, _&&_, _||_}
+use native.Mathlib.Nat.{add-zero}
+use mathlib.Core.Path.{_≡_, refl, sym, ap, ap₂, subst, subst⁻¹, _∙_}
+use mathlib.Core.Bool.{Bool, true, false, _&&_, _||_}
 use mathlib.Core.List.{List, [], _∷_, _++_}
-use borrow.Author.Tests.{eq-eqb, ne-eqb}
-use lib.ListN.{getD, drop}
-use lib.Dec.{T, eqb, leb, ltb, lt→ltb, le→leb, ltb→lt, leb→le}
+use mathlib.Core.Logic.{⊎-elim}
+use borrow.Author.Tests.{eq-eqb, ne-eqb, le-leb}
+use lib.ListN.{length, getD, drop}
+use lib.Seq.{drop-cons, drop-length}
+use lib.Dec.{T, eqb}
 use Rattle.octets.specs.Bytes.{Bytes}
-use Rattle.octets.proofs.Computed.{both, both-left, both-right}
-use Rattle.form.specs.Regex.{Re, empty, judge}
+use Rattle.octets.proofs.Lists.{bytes-append}
+use Rattle.form.specs.Regex.{judge}
 use Rattle.form.specs.Listings.{dateTimeForm}
 use Rattle.form.specs.declared.Verdict.the-variants.{Fits}
-use Rattle.form.proofs.Same.{same, same-eq}
-use Rattle.form.proofs.Steps.{Ends, left}
+use Rattle.form.proofs.Steps.{is-true}
 use Rattle.datetime.specs.Calendar.{leap, monthDays}
-use Rattle.datetime.specs.Instant.{decimal, Civil, spelled, civilOn, utcText}
-use Rattle.datetime.specs.Plain.{leapIn}
+use Rattle.datetime.specs.Instant.{digitOf, lastDigit, decimal, Civil, spelled, civilOn, utcText}
+use Rattle.datetime.specs.Plain.{pair, pairAt, leapIn, monthLength}
+use Rattle.datetime.specs.Reach.{within, pairEnd, markedEnd, past, daysOf, dateEnd, clockEnd, offsetEnd, zoneVerdict, verdict}
 use Rattle.datetime.proofs.Days.{month-length}
-use Rattle.datetime.proofs.Parts.{goes, Found, found, split, fitted, alike, alike-eq, whatever-before}
-use Rattle.datetime.proofs.Listing.{
-  after,
-  century,
-  year,
-  month,
-  day,
-  hour,
-  minute,
-  second,
-  hundredth,
-  thousandth,
-  offsetHour,
-  offsetMinute,
-  century-stands,
-  year-stands,
-  month-stands,
-  day-stands,
-  clock-stands,
-  offset-stands,
-  isSign,
-  zoneSigned,
-  zoneBegins,
-  zone-begins,
-}
+use Rattle.datetime.proofs.Formulas.{agree, month-days}
+use Rattle.datetime.proofs.Onward.{by-digits}
+use Rattle.datetime.proofs.Listing.{isSign}
+use Rattle.datetime.proofs.Passed.{DatePassed, date-passed, ClockPassed, clock-passed, offset-passed, Utc, Away, passed}
+use Rattle.datetime.proofs.Passed.{leaps, days-range, whole, other-sign}
+use Rattle.datetime.proofs.Walk.{verdict-is}
 
 -- the leap rule by the two halves of the year
 pub leap-halves : (c x : ℕ) → x < 100 → leap (c * 100 + x) ≡ leapIn (eqb (c % 4) 0) x
@@ -99,136 +83,6 @@ pub record Valid (c : Civil) : Type 0 where
   pub second-small : c .second < 60
   pub milli-small : c .milli < 1000
 
-both-hold : (a b : Bool) → T a → T b → T (a && b)
-both-hold true b t u = u
-both-hold false b t u = absurd t
-
-from-to : (lo x hi : ℕ) → lo ≤ x → x ≤ hi → T (leb lo x && leb x hi)
-from-to lo x hi a b = both-hold (leb lo x) (leb x hi) (le→leb lo x a) (le→leb x hi b)
-
--- what may stand at a place of the form goes on there: zone, clock time, date
-zone-on : {zone : List ℕ} → Zone zone → Ends (after "1000-01-01T00:00:00.000") zone
-zone-on utc = λ n. refl
-zone-on (away c h n g hh hn) =
-    let minutes = code ":" ∷ decimal 2 n in
-    let hours = decimal 2 h ++ minutes in
-    signed c g hours
-    (goes offsetHour (offset-stands .0) h (omega arith) (lt→ltb h 20 hh) minutes
-    (goes offsetMinute (offset-stands .1) n (omega arith) (lt→ltb n 60 hn) [] (λ k. refl)))
-  where
-    signed : (c : ℕ) → T (isSign c) → (rest : List ℕ) → Ends (after "1000-01-01T00:00:00.000+") rest → Ends
-        (after "1000-01-01T00:00:00.000") (c ∷ rest)
-    signed c g rest e = elim (ℕ-discrete c (code "+")) [
-      | yes p ↦ subst⁻¹ (λ (x : ℕ). Ends (after "1000-01-01T00:00:00.000") (x ∷ rest)) p (λ k. e (suc k))
-      | no p ↦ elim (ℕ-discrete c (code "-")) [
-        | yes q ↦ subst⁻¹ (λ (x : ℕ). Ends (after "1000-01-01T00:00:00.000") (x ∷ rest)) q (λ k. e (suc k))
-        | no q ↦ absurd (subst₂ (λ (a b : Bool). T (a || b)) (ne-eqb c (code "+") p) (ne-eqb c (code "-") q) g)
-      ]
-    ]
-
-clock-on : (h n s t : ℕ) → h < 24 → n < 60 → s < 60 → t < 1000 → (zone : List ℕ) → Zone zone →
-    Ends (after "1000-01-01") (code "T" ∷ decimal 2 h ++ code ":" ∷ decimal 2 n ++ code ":" ∷ decimal 2 s ++ code "." ∷ decimal 3 t ++
-    zone)
-clock-on h n s t hh hn hs ht zone z =
-    let millis = decimal 1 t ++ zone in
-    let hundredths = code "." ∷ decimal 2 (t / 10) ++ millis in
-    let seconds = code ":" ∷ decimal 2 s ++ hundredths in
-    let minutes = code ":" ∷ decimal 2 n ++ seconds in
-    goes hour (clock-stands .0) h (omega arith) (lt→ltb h 24 hh) minutes
-    (goes minute (clock-stands .1) n (omega arith) (lt→ltb n 60 hn) seconds
-    (goes second (clock-stands .2) s (omega arith) (lt→ltb s 60 hs) hundredths
-    (goes hundredth (clock-stands .3) (t / 10) (omega arith) tt millis
-    (subst (λ (x : ℕ). Ends (after "1000-01-01T00:00:00.00") ((code "0" + x) ∷ zone)) last
-    (goes thousandth (clock-stands .4) (t % 10) (omega arith) tt zone (zone-on z))))))
-  where
-    last : t % 10 % 10 ≡ t % 10
-    last = omega arith
-
--- of the year c * 100 + x
-date-on : (c x m d : ℕ) → 10 ≤ c → c < 100 → x < 100 → 1 ≤ m → m ≤ 12 → 1 ≤ d → d ≤ monthDays (leap (c * 100 + x)) m →
-    (rest : List ℕ) → Ends (after "1000-01-01") rest → Ends dateTimeForm
-    (decimal 4 (c * 100 + x) ++ code "-" ∷ decimal 2 m ++ code "-" ∷ decimal 2 d ++ rest)
-date-on c x m d c₀ c₁ x₁ m₀ m₁ d₀ d₁ rest e =
-    let fourth = eqb (c % 4) 0 in
-    let l = leapIn fourth x in
-    let days = code "-" ∷ decimal 2 d ++ rest in
-    let months = code "-" ∷ decimal 2 m ++ days in
-    let most : d ≤ monthDays l m = subst (λ (b : Bool). d ≤ monthDays b m) (leap-halves c x x₁) d₁ in
-    let long = month-length l m m₀ (omega arith) in
-    subst⁻¹ (λ (year : List ℕ). Ends dateTimeForm (year ++ code "-" ∷ decimal 2 m ++ code "-" ∷ decimal 2 d ++ rest))
-    (year-halves c x c₁ x₁)
-    (goes century century-stands c c₁ (le→leb 10 c c₀) (decimal 2 x ++ months)
-    (goes (year fourth) (year-stands fourth) x x₁ tt months
-    (goes (month l) (month-stands l) m (omega arith) (from-to 1 m 12 m₀ m₁) days
-    (goes (day (monthDays l m)) (day-stands (monthDays l m) (long .0) (long .1)) d (omega (arith, long .1, most))
-    (from-to 1 d (monthDays l m) d₀ most) rest e))))
-
--- a valid date and clock time and a zone are of the form
-pub in-form : (c : Civil) → Valid c → (zone : List ℕ) → Zone zone → judge dateTimeForm (spelled c ++ zone) ≡ Fits
-in-form c v zone z =
-    let e : c .year / 100 * 100 + c .year % 100 ≡ c .year = omega arith in
-    let clock = code "T" ∷ decimal 2 (c .hour) ++ code ":" ∷ decimal 2 (c .minute) ++ code ":" ∷ decimal 2 (c .second) ++ code "." ∷
-    decimal 3 (c .milli) ++ zone in
-    subst (λ (y : ℕ). Ends dateTimeForm (decimal 4 y ++ code "-" ∷ decimal 2 (c .month) ++ code "-" ∷ decimal 2 (c .day) ++ clock)) e
-    (date-on (c .year / 100) (c .year % 100) (c .month) (c .day) (omega (arith, v .year-least)) (omega (arith, v .year-most))
-    (omega arith)
-    (v .month-least) (v .month-most) (v .day-least) (subst⁻¹ (λ (y : ℕ). c .day ≤ monthDays (leap y) (c .month)) e (v .day-most)) clock
-    (clock-on (c .hour) (c .minute) (c .second) (c .milli) (v .hour-small) (v .minute-small) (v .second-small) (v .milli-small) zone z)) 0
-
--- and back: what stands in a text of the form. Nothing follows where nothing is left
-ended : (s : List ℕ) → Ends empty s → s ≡ []
-ended [] e = refl
-ended (c ∷ cs) e = absurd (false≢true (fitted false Fits 0 (e 0) .0))
-
-signed-of : (s : List ℕ) → Bytes s → Ends (after "1000-01-01T00:00:00.000+") s → (c : ℕ) → T (isSign c) → Zone (c ∷ s)
-signed-of s b e c g =
-    let hours = found offsetHour (offset-stands .0) s b e in
-    let minutes = found offsetMinute (offset-stands .1) (hours .rest) (hours .bytes) (hours .onward) in
-    let all : s ≡ decimal 2 (hours .value) ++ code ":" ∷ decimal 2 (minutes .value) =
-    hours .whole ∙ ap (λ (l : List ℕ). decimal 2 (hours .value) ++ l)
-    (minutes .whole ∙ ap (λ (l : List ℕ). code ":" ∷ decimal 2 (minutes .value) ++ l) (ended (minutes .rest) (minutes .onward))) in
-    subst⁻¹ (λ (l : List ℕ). Zone (c ∷ l)) all
-    (away c (hours .value) (minutes .value) g (ltb→lt (hours .value) 20 (hours .good)) (ltb→lt (minutes .value) 60 (minutes .good)))
-
-zone-of : (s : List ℕ) → Bytes s → Ends (after "1000-01-01T00:00:00.000") s → Zone s
-zone-of s b e =
-    let x = split 1 (after "1000-01-01T00:00:00.000") zoneBegins s zone-begins b e in
-    subst⁻¹ Zone (x .whole)
-    (by-first (x .part) (left (after "1000-01-01T00:00:00.000") (x .part)) (alike (x .part) (code "Z" ∷ [])) refl (x .passes) (x .rest)
-    (x .bytes) (x .onward))
-  where
-    by-first : (part : List ℕ) (q : Re) (z : Bool) → alike part (code "Z" ∷ []) ≡ z → T (cond z (same q empty) (zoneSigned q part)) →
-        (rest : List ℕ) → Bytes rest → Ends q rest → Zone (part ++ rest)
-    by-first part q true a t rest b e =
-        let none = ended rest (subst (λ (r : Re). Ends r rest) (same-eq q empty t) e) in
-        subst₂ (λ (p r : List ℕ). Zone (p ++ r)) (sym (alike-eq part (code "Z" ∷ []) (subst⁻¹ T a tt))) (sym none) utc
-    by-first part q false a t rest b e =
-        let c = getD part 0 0 in
-        let one = alike part (c ∷ []) in
-        let plus = same q (after "1000-01-01T00:00:00.000+") in
-        let u = both-right one (both (isSign c) plus) t in
-        subst⁻¹ (λ (p : List ℕ). Zone (p ++ rest)) (alike-eq part (c ∷ []) (both-left one (both (isSign c) plus) t))
-        (signed-of rest b (subst (λ (r : Re). Ends r rest)
-        (same-eq q (after "1000-01-01T00:00:00.000+") (both-right (isSign c) plus u)) e) c (both-left (isSign c) plus u))
-
-pub hold-both : (a b : Bool) → T (a && b) → T a × T b
-hold-both true b t = (tt, t)
-hold-both false b t = absurd t
-
-to-from : (lo x hi : ℕ) → T (leb lo x && leb x hi) → (lo ≤ x) × (x ≤ hi)
-to-from lo x hi t = let u = hold-both (leb lo x) (leb x hi) t in (leb→le lo x (u .0), leb→le x hi (u .1))
-
-record ClockIn (s : List ℕ) : Type 0 where
-  pub hour-is : ℕ
-  pub minute-is : ℕ
-  pub second-is : ℕ
-  pub milli-is : ℕ
-  pub zone : List ℕ
-  pub whole : s ≡ code "T" ∷ decimal 2 hour-is ++ code ":" ∷ decimal 2 minute-is ++ code ":" ∷ decimal 2 second-is ++ code "." ∷
-      decimal 3 milli-is ++ zone
-  pub ranges : (hour-is < 24) × (minute-is < 60) × (second-is < 60) × (milli-is < 1000)
-  pub zoned : Zone zone
-
 -- three digits are two and one
 pub milli-halves : (a b : ℕ) → b < 10 → decimal 3 (a * 10 + b) ≡ decimal 2 a ++ decimal 1 b
 milli-halves a b h =
@@ -236,102 +90,6 @@ milli-halves a b h =
     let e₂ : (a * 10 + b) / 10 % 10 ≡ a % 10 = omega arith in
     let e₃ : (a * 10 + b) % 10 ≡ b % 10 = omega arith in
     rw (e₁, e₂, e₃)
-
-clock-parts : (s : List ℕ) (h : Found hour s) (n : Found minute (h .rest)) (c : Found second (n .rest)) (u : Found hundredth (c .rest))
-    (w : Found thousandth (u .rest)) → ClockIn s
-clock-parts s h n c u w =
-    record {
-      hour-is = h .value;
-      minute-is = n .value;
-      second-is = c .value;
-      milli-is = u .value * 10 + w .value;
-      zone = w .rest;
-      whole =
-          subst⁻¹ (λ (l : List ℕ). s ≡ code "T" ∷ decimal 2 (h .value) ++ code ":" ∷ decimal 2 (n .value) ++ code ":" ∷ decimal 2
-          (c .value) ++ code "." ∷ l ++ w .rest)
-          (milli-halves (u .value) (w .value) (w .small)) (rw (h .whole, n .whole, c .whole, u .whole, w .whole));
-      ranges = (
-        ltb→lt (h .value) 24 (h .good),
-        ltb→lt (n .value) 60 (n .good),
-        ltb→lt (c .value) 60 (c .good),
-        omega
-            (arith, u .small, w .small),
-      );
-      zoned = zone-of (w .rest) (w .bytes) (w .onward);
-    }
-
-clock-in : (s : List ℕ) → Bytes s → Ends (after "1000-01-01") s → ClockIn s
-clock-in s b e = from-hour (found hour (clock-stands .0) s b e)
-  where
-    from-hundredth : (h : Found hour s) (n : Found minute (h .rest)) (c : Found second (n .rest)) → Found hundredth (c .rest) → ClockIn s
-    from-hundredth h n c u = clock-parts s h n c u (found thousandth (clock-stands .4) (u .rest) (u .bytes) (u .onward))
-
-    from-minute : (h : Found hour s) → Found minute (h .rest) → ClockIn s
-    from-minute h n =
-        let c = found second (clock-stands .2) (n .rest) (n .bytes) (n .onward) in
-        from-hundredth h n c (found hundredth (clock-stands .3) (c .rest) (c .bytes) (c .onward))
-
-    from-hour : Found hour s → ClockIn s
-    from-hour h = from-minute h (found minute (clock-stands .1) (h .rest) (h .bytes) (h .onward))
-
-record DateIn (s : List ℕ) : Type 0 where
-  pub year-is : ℕ
-  pub month-is : ℕ
-  pub day-is : ℕ
-  pub rest : List ℕ
-  pub whole : s ≡ decimal 4 year-is ++ code "-" ∷ decimal 2 month-is ++ code "-" ∷ decimal 2 day-is ++ rest
-  pub years : (1000 ≤ year-is) × (year-is ≤ 9999)
-  pub months : (1 ≤ month-is) × (month-is ≤ 12)
-  pub days : (1 ≤ day-is) × (day-is ≤ monthDays (leap year-is) month-is)
-  pub bytes : Bytes rest
-  pub onward : Ends (after "1000-01-01") rest
-
-abbrev leapAt : ℕ → ℕ → Bool
-leapAt c x = leapIn (eqb (c % 4) 0) x
-
-date-parts : (s : List ℕ) (c : Found century s) (x : Found (year (eqb (c .value % 4) 0)) (c .rest))
-    (m : Found (month (leapAt (c .value) (x .value))) (x .rest)) →
-    Found (day (monthDays (leapAt (c .value) (x .value)) (m .value))) (m .rest) → DateIn s
-date-parts s c x m d =
-    let l = leapAt (c .value) (x .value) in
-    let ten = leb→le 10 (c .value) (c .good) in
-    let ds = to-from 1 (d .value) (monthDays l (m .value)) (d .good) in
-    record {
-      year-is = c .value * 100 + x .value;
-      month-is = m .value;
-      day-is = d .value;
-      rest = d .rest;
-      whole =
-          subst⁻¹ (λ (y : List ℕ). s ≡ y ++ code "-" ∷ decimal 2 (m .value) ++ code "-" ∷ decimal 2 (d .value) ++ d .rest)
-          (year-halves (c .value) (x .value) (c .small) (x .small)) (rw (c .whole, x .whole, m .whole, d .whole));
-      years = between (c .value) (x .value) ten (c .small) (x .small);
-      months = to-from 1 (m .value) 12 (m .good);
-      days = (ds .0, subst⁻¹ (λ (t : Bool). d .value ≤ monthDays t (m .value)) (leap-halves (c .value) (x .value) (x .small)) (ds .1));
-      bytes = d .bytes;
-      onward = d .onward;
-    }
-  where
-    between : (c x : ℕ) → 10 ≤ c → c < 100 → x < 100 → (1000 ≤ c * 100 + x) × (c * 100 + x ≤ 9999)
-    between c x h k j = omega arith
-
-date-in : (s : List ℕ) → Bytes s → Ends dateTimeForm s → DateIn s
-date-in s b e = from-century (found century century-stands s b e)
-  where
-    from-month : (c : Found century s) (x : Found (year (eqb (c .value % 4) 0)) (c .rest)) → Found
-        (month (leapAt (c .value) (x .value))) (x .rest) → DateIn s
-    from-month c x m =
-        let ms = to-from 1 (m .value) 12 (m .good) in
-        let days = monthDays (leapAt (c .value) (x .value)) (m .value) in
-        let long = month-length (leapAt (c .value) (x .value)) (m .value) (ms .0) (suc-le-suc (ms .1)) in
-        date-parts s c x m (found (day days) (day-stands days (long .0) (long .1)) (m .rest) (m .bytes) (m .onward))
-
-    from-year : (c : Found century s) → Found (year (eqb (c .value % 4) 0)) (c .rest) → DateIn s
-    from-year c x = from-month c x (found (month (leapAt (c .value) (x .value))) (month-stands (leapAt (c .value) (x .value)))
-        (x .rest) (x .bytes) (x .onward))
-
-    from-century : Found century s → DateIn s
-    from-century c = from-year c (found (year (eqb (c .value % 4) 0)) (year-stands (eqb (c .value % 4) 0)) (c .rest) (c .bytes)
-        (c .onward))
 
 -- a text of the form, taken apart
 pub record OfForm (s : List ℕ) : Type 0 where
@@ -341,40 +99,243 @@ pub record OfForm (s : List ℕ) : Type 0 where
   pub zoned : Zone zone
   pub whole : s ≡ spelled civil ++ zone
 
-whole-form : {s : List ℕ} (date : DateIn s) → ClockIn (date .rest) → OfForm s
-whole-form date clock =
-    record {
-      civil =
-          record {
-            year = date .year-is;
-            month = date .month-is;
-            day = date .day-is;
-            hour = clock .hour-is;
-            minute = clock .minute-is;
-            second = clock .second-is;
-            milli = clock .milli-is;
-          };
-      zone = clock .zone;
-      valid =
-          record {
-            year-least = date .years .0;
-            year-most = date .years .1;
-            month-least = date .months .0;
-            month-most = date .months .1;
-            day-least = date .days .0;
-            day-most = date .days .1;
-            hour-small = clock .ranges .0;
-            minute-small = clock .ranges .1;
-            second-small = clock .ranges .2;
-            milli-small = clock .ranges .3;
-          };
-      zoned = clock .zoned;
-      whole = date .whole ∙ ap (λ (l : List ℕ). decimal 4 (date .year-is) ++ code "-" ∷ decimal 2 (date .month-is) ++ code "-" ∷
-          decimal 2 (date .day-is) ++ l) (clock .whole);
-    }
+-- two bytes that make a number below 100 are its digits
+pair-shown : (a b : ℕ) → pair a b < 100 → a ∷ b ∷ [] ≡ decimal 2 (pair a b)
+pair-shown a b =
+    by-digits (λ v. v < 100 → a ∷ b ∷ [] ≡ decimal 2 v) a b
+    (λ d h. ap₂ (λ (x y : ℕ). x ∷ y ∷ []) (tens d) (ones d)) (λ h. absurd (omega arith))
+  where
+    tens : (48 ≤ a) × (a ≤ 57) × (48 ≤ b) × (b ≤ 57) → a ≡ lastDigit ((digitOf a * 10 + digitOf b) / 10)
+    tens d = omega arith
+
+    ones : (48 ≤ a) × (a ≤ 57) × (48 ≤ b) × (b ≤ 57) → b ≡ lastDigit (digitOf a * 10 + digitOf b)
+    ones d = omega arith
+
+-- and a number below 100 is read off its digits
+pair-back : (x : ℕ) → x < 100 → pair (lastDigit (x / 10)) (lastDigit x) ≡ x
+pair-back x h = agree (λ n. pair (lastDigit (n / 10)) (lastDigit n)) (λ n. n) 0 100 tt x (omega arith) h
+
+-- the elements of a list one by one, and the rest
+abbrev from : List ℕ → ℕ → ℕ → List ℕ → List ℕ
+from s i zero rest = rest
+from s i (suc n) rest = getD s i 0 ∷ from s (suc i) n rest
+
+spread : (s : List ℕ) (i n : ℕ) → i + n ≤ length s → drop i s ≡ from s i n (drop (i + n) s)
+spread s i zero h = rw (add-zero i)
+spread s i (suc n) h =
+    let k : suc i + n ≤ length s = omega arith in
+    let e : suc i + n ≡ i + suc n = omega arith in
+    drop-cons s i 0 (omega arith) ∙ ap (λ (l : List ℕ). getD s i 0 ∷ l)
+    (spread s (suc i) n k ∙ ap (λ (m : ℕ). from s (suc i) n (drop m s)) e)
+
+-- what stands in a text that was passed
+module _ (s : List ℕ) where
+  abbrev year : ℕ
+  year = pairAt s 0 * 100 + pairAt s 2
+
+  abbrev milli : ℕ
+  milli = pairAt s 20 * 10 + digitOf (getD s 22 0)
+
+  abbrev shown : Civil
+  shown =
+      record {
+        year = year;
+        month = pairAt s 5;
+        day = pairAt s 8;
+        hour = pairAt s 11;
+        minute = pairAt s 14;
+        second = pairAt s 17;
+        milli = milli;
+      }
+
+  module _ (a : DatePassed s) (b : ClockPassed s) where
+    valid : Valid shown
+    valid =
+        record {
+          year-least = omega (arith, a .century .0);
+          year-most = omega (arith, a .century .1, a .year .1);
+          month-least = a .month .1;
+          month-most = a .month .2;
+          day-least = a .day .1;
+          day-most = subst (λ (n : ℕ). pairAt s 8 ≤ n)
+              (month-days (leaps s) (pairAt s 5) (a .month .1) (omega (arith, a .month .2))
+              ∙ ap (λ (l : Bool). monthDays l (pairAt s 5)) (sym (leap-halves (pairAt s 0) (pairAt s 2) (omega (arith, a .year .1)))))
+              (a .day .2);
+          hour-small = omega (arith, b .hour .2);
+          minute-small = omega (arith, b .minute .2);
+          second-small = omega (arith, b .second .2);
+          milli-small = omega (arith, b .hundredth .2, b .thousandth .1);
+        }
+
+    digits : (i : ℕ) → pairAt s i < 100 → getD s i 0 ∷ getD s (i + 1) 0 ∷ [] ≡ decimal 2 (pairAt s i)
+    digits i h = pair-shown (getD s i 0) (getD s (i + 1) 0) h
+
+    last-shown : getD s 22 0 ∷ [] ≡ decimal 1 (digitOf (getD s 22 0))
+    last-shown =
+        let e : getD s 22 0 ≡ lastDigit (digitOf (getD s 22 0)) = omega (arith, b .thousandth) in
+        ap (λ (c : ℕ). c ∷ []) e
+
+    -- the text is what it shows, spelled
+    laid : (zone : List ℕ) → from s 0 23 zone ≡ spelled shown ++ zone
+    laid zone =
+        let c = digits 0 (omega (arith, a .century .1)) in
+        let x = digits 2 (omega (arith, a .year .1)) in
+        let month = digits 5 (omega (arith, a .month .2)) in
+        let day = digits 8 (omega (arith, a .day .2, days-range (leaps s) (pairAt s 5) (a .month .1) (a .month .2) .1)) in
+        let hour = digits 11 (omega (arith, b .hour .2)) in
+        let minute = digits 14 (omega (arith, b .minute .2)) in
+        let second = digits 17 (omega (arith, b .second .2)) in
+        let hundredth = digits 20 (omega (arith, b .hundredth .2)) in
+        let e₄ = a .month .0 in
+        let e₇ = a .day .0 in
+        let e₁₀ = b .hour .0 in
+        let e₁₃ = b .minute .0 in
+        let e₁₆ = b .second .0 in
+        let e₁₉ = b .hundredth .0 in
+        let y : decimal 2 (pairAt s 0) ++ decimal 2 (pairAt s 2) ≡ decimal 4 year = sym
+        (year-halves (pairAt s 0) (pairAt s 2) (omega (arith, a .century .1)) (omega (arith, a .year .1))) in
+        let w : decimal 2 (pairAt s 20) ++ decimal 1 (digitOf (getD s 22 0)) ≡ decimal 3 milli = sym
+        (milli-halves (pairAt s 20) (digitOf (getD s 22 0)) (omega (arith, b .thousandth .1))) in
+        (λ i. c i ++ x i ++ e₄ i ∷ month i ++ e₇ i ∷ day i ++ e₁₀ i ∷ hour i ++ e₁₃ i ∷ minute i ++ e₁₆ i ∷ second i ++ e₁₉ i ∷ hundredth
+        i ++ last-shown i ++ zone)
+        ∙ (λ i. y i ++ code "-" ∷ decimal 2 (pairAt s 5) ++ code "-" ∷ decimal 2 (pairAt s 8) ++ code "T" ∷ decimal 2 (pairAt s 11) ++
+        code ":" ∷ decimal 2 (pairAt s 14) ++ code ":" ∷ decimal 2 (pairAt s 17) ++ code "." ∷ w i ++ zone)
+
+    -- to the end of a text of n bytes
+    to-end : (i n : ℕ) → length s ≡ i + n → drop i s ≡ from s i n []
+    to-end i n e =
+        spread s i n (omega arith)
+        ∙ ap (from s i n) (ap (λ (k : ℕ). drop k s) (sym e) ∙ drop-length s)
+
+    utc-zone : Utc s → Zone (drop 23 s)
+    utc-zone z = subst⁻¹ Zone (to-end 23 1 (z .long) ∙ ap (λ (c : ℕ). c ∷ []) (z .letter)) utc
+
+    offset-zone : Away s → Zone (drop 23 s)
+    offset-zone z =
+        let o = offset-passed s (z .offset) in
+        let hour = digits 24 (omega (arith, o .hour .1)) in
+        let minute = digits 27 (omega (arith, o .minute .2)) in
+        let colon = o .minute .0 in
+        subst⁻¹ Zone (to-end 23 6 (z .long) ∙ (λ i. getD s 23 0 ∷ hour i ++ colon i ∷ minute i))
+        (away (getD s 23 0) (pairAt s 24) (pairAt s 27) (z .sign) (omega (arith, o .hour .1)) (omega (arith, o .minute .2)))
 
 pub of-form : (s : List ℕ) → Bytes s → judge dateTimeForm s ≡ Fits → OfForm s
-of-form s b j = from-date (date-in s b (whatever-before s dateTimeForm 0 j))
-  where
-    from-date : DateIn s → OfForm s
-    from-date date = whole-form date (clock-in (date .rest) (date .bytes) (date .onward))
+of-form s b j =
+    let e = verdict-is s b ∙ j in
+    let p = passed s e in
+    let d = date-passed s (p .date) in
+    let c = clock-passed s (p .clock) in
+    record {
+      civil = shown s;
+      zone = drop 23 s;
+      valid = valid s d c;
+      zoned = ⊎-elim (utc-zone s d c) (offset-zone s d c) (p .zone);
+      whole = spread s 0 23 (omega (arith, whole s e .0)) ∙ laid s d c (drop 23 s);
+    }
+
+-- and back: what is spelled is passed, part by part
+on-past : {e j f k : ℕ} → e ≡ j → f ≡ k → past j e f ≡ k
+on-past {e} {j} t g = rw (eq-eqb e j t) g
+
+is-within : (least most v : ℕ) → least ≤ v → v ≤ most → within least most v ≡ true
+is-within least most v a b = ap₂ _&&_ (le-leb least v a) (le-leb v most b)
+
+module _ (s : List ℕ) (i least most v : ℕ) (a : least ≤ v) (b : v ≤ most) where
+  on-pair : pairAt s i ≡ v → pairEnd s i least most ≡ i + 2
+  unfolding pairEnd
+  on-pair e = rw (e, is-within least most v a b)
+
+  on-marked : (c : ℕ) → getD s i 0 ≡ c → pairAt s (i + 1) ≡ v → markedEnd s i c least most ≡ i + 3
+  unfolding markedEnd
+  on-marked c m e = rw (eq-eqb (getD s i 0) c m, e, is-within least most v a b)
+
+module _ (c : Civil) (v : Valid c) where
+  abbrev hundreds : ℕ
+  hundreds = c .year / 100
+
+  abbrev place : ℕ
+  place = c .year % 100
+
+  hundreds-back : pair (lastDigit (c .year / 10 / 10 / 10)) (lastDigit (c .year / 10 / 10)) ≡ hundreds
+  hundreds-back =
+      let e : c .year / 10 / 10 ≡ hundreds = omega arith in
+      ap (λ (n : ℕ). pair (lastDigit (n / 10)) (lastDigit n)) e ∙ pair-back hundreds (omega (arith, v .year-most))
+
+  place-back : pair (lastDigit (c .year / 10)) (lastDigit (c .year)) ≡ place
+  place-back =
+      let e₁ : lastDigit (c .year / 10) ≡ lastDigit (place / 10) = omega arith in
+      let e₂ : lastDigit (c .year) ≡ lastDigit place = omega arith in
+      ap₂ pair e₁ e₂ ∙ pair-back place (omega arith)
+
+  month-back : pair (lastDigit (c .month / 10)) (lastDigit (c .month)) ≡ c .month
+  month-back = pair-back (c .month) (omega (arith, v .month-most))
+
+  module _ (zone : List ℕ) where
+    abbrev text : List ℕ
+    text = spelled c ++ zone
+
+    -- the month's days, as the walk counts them
+    days-back : daysOf text ≡ monthDays (leap (c .year)) (c .month)
+    days-back =
+        let e : hundreds * 100 + place ≡ c .year = omega arith in
+        (λ i. monthLength (leapIn (eqb (hundreds-back i % 4) 0) (place-back i)) (month-back i))
+        ∙ month-days (leapIn (eqb (hundreds % 4) 0) place) (c .month) (v .month-least) (omega (arith, v .month-most))
+        ∙ ap (λ (l : Bool). monthDays l (c .month)) (sym (leap-halves hundreds place (omega arith)) ∙ ap leap e)
+
+    spelled-date : dateEnd text ≡ 10
+    unfolding dateEnd
+    spelled-date =
+        let most = month-length (leap (c .year)) (c .month) (v .month-least) (omega (arith, v .month-most)) .1 in
+        on-past (on-pair text 0 10 99 hundreds (omega (arith, v .year-least)) (omega (arith, v .year-most)) hundreds-back)
+        (on-past (on-pair text 2 0 99 place (omega arith) (omega arith) place-back)
+        (on-past (on-marked text 4 1 12 (c .month) (v .month-least) (v .month-most) (code "-") refl month-back)
+        (on-marked text 7 1 (daysOf text) (c .day) (v .day-least) (subst⁻¹ (λ (n : ℕ). c .day ≤ n) days-back (v .day-most)) (code "-") refl
+        (pair-back (c .day) (omega (arith, v .day-most, most))))))
+
+    spelled-clock : clockEnd text ≡ 23
+    unfolding clockEnd
+    spelled-clock =
+        let hour = v .hour-small in
+        let minute = v .minute-small in
+        let second = v .second-small in
+        let milli = v .milli-small in
+        on-past (on-marked text 10 0 23 (c .hour) (omega arith) (omega arith) (code "T") refl (pair-back (c .hour) (omega arith)))
+        (on-past (on-marked text 13 0 59 (c .minute) (omega arith) (omega arith) (code ":") refl (pair-back (c .minute) (omega arith)))
+        (on-past (on-marked text 16 0 59 (c .second) (omega arith) (omega arith) (code ":") refl (pair-back (c .second) (omega arith)))
+        (on-past (on-marked text 19 0 99 (c .milli / 10) (omega arith) (omega arith) (code ".") refl (pair-back (c .milli / 10)
+        (omega arith)))
+        (rw (is-within (code "0") (code "9") (lastDigit (c .milli)) (omega arith) (omega arith))))))
+
+    text-bytes : Zone zone → Bytes text
+    text-bytes z = bytes-append (spelled c) zone (omega arith) (zone-bytes z)
+      where
+        sign-byte : (k : ℕ) → T (isSign k) → k < 256
+        sign-byte k g = elim (ℕ-discrete k (code "+")) [
+          | yes p ↦ omega arith
+          | no p ↦ omega (arith, other-sign k g p)
+        ]
+
+        zone-bytes : {zone : List ℕ} → Zone zone → Bytes zone
+        zone-bytes utc = omega arith
+        zone-bytes (away k h n g hh hn) = (sign-byte k g, omega arith)
+
+  spelled-zone : (zone : List ℕ) → Zone zone → zoneVerdict (spelled c ++ zone) ≡ Fits
+  unfolding zoneVerdict offsetEnd
+  spelled-zone zone utc = refl
+  spelled-zone zone (away k h n g hh hn) = elim (ℕ-discrete k (code "Z")) [
+    | yes z ↦ absurd (subst (λ (x : ℕ). T (isSign x)) z g)
+    | no z ↦
+        let s = spelled c ++ k ∷ decimal 2 h ++ code ":" ∷ decimal 2 n in
+        let o : offsetEnd s ≡ 29 =
+        on-past (on-pair s 24 0 19 h (omega arith) (omega arith) (pair-back h (omega arith)))
+        (on-marked s 26 0 59 n (omega arith) (omega arith) (code ":") refl (pair-back n (omega arith))) in
+        rw (ne-eqb k (code "Z") z, is-true (isSign k) g, eq-eqb (offsetEnd s) 29 o)
+  ]
+
+-- a valid date and clock time and a zone are of the form
+pub in-form : (c : Civil) → Valid c → (zone : List ℕ) → Zone zone → judge dateTimeForm (spelled c ++ zone) ≡ Fits
+unfolding verdict
+in-form c v zone z =
+    let s = spelled c ++ zone in
+    sym (verdict-is s (text-bytes c v zone z))
+    ∙ rw (eq-eqb (dateEnd s) 10 (spelled-date c v zone), eq-eqb (clockEnd s) 23 (spelled-clock c v zone)) (spelled-zone c v zone z)

@@ -1,11 +1,10 @@
--- The reader's quick test, which no promise cites: it passes exactly the texts of listing 12's form, and is made of few plain
--- comparisons. Where a text stops that it does not pass, the form's table tells.
+-- What the code is made of, few plain comparisons and divisions, which no promise cites.
 use Prim.Native.Nat.{ℕ, _+_, _-_, _*_, _/_, _%_}
 use Prim.Native.Char.{code}
-use mathlib.Core.Bool.{Bool, false, cond, not, _&&_, _||_}
+use mathlib.Core.Bool.{Bool, cond, not, _&&_, _||_}
 use mathlib.Core.List.{List}
 use lib.Dec.{eqb, ltb, leb}
-use lib.ListN.{length, getD}
+use lib.ListN.{getD}
 use Rattle.datetime.specs.Instant.{digitOf}
 
 abbrev pub isDigit : ℕ → Bool
@@ -36,32 +35,3 @@ pairAt s i = pair (getD s i 0) (getD s (i + 1) 0)
 
 abbrev pub is : List ℕ → ℕ → ℕ → Bool
 is s i c = eqb (getD s i 0) c
-
-abbrev pub plainYear : ℕ → ℕ → Bool
-plainYear c x = leb 10 c && ltb c 100 && ltb x 100
-
-abbrev pub plainMonth : Bool → ℕ → ℕ → Bool
-plainMonth l m d = leb 1 m && leb m 12 && leb 1 d && leb d (monthLength l m)
-
-unfoldable pub plainDate : List ℕ → Bool
-plainDate s =
-    plainYear (pairAt s 0) (pairAt s 2)
-    && plainMonth (leapIn (eqb (pairAt s 0 % 4) 0) (pairAt s 2)) (pairAt s 5) (pairAt s 8)
-
-unfoldable pub plainClock : List ℕ → Bool
-plainClock s =
-    ltb (pairAt s 11) 24 && ltb (pairAt s 14) 60 && ltb (pairAt s 17) 60 && ltb (pairAt s 20) 100 && isDigit (getD s 22 0)
-
-unfoldable pub plainMarks : List ℕ → Bool
-plainMarks s = is s 4 (code "-") && is s 7 (code "-") && is s 10 (code "T") && is s 13 (code ":") && is s 16 (code ":") && is s 19
-    (code ".")
-
--- 24 bytes that end in `Z`, or 29 with a sign and HH:MM
-unfoldable pub plainOffset : List ℕ → Bool
-plainOffset s = (is s 23 (code "+") || is s 23 (code "-")) && ltb (pairAt s 24) 20 && is s 26 (code ":") && ltb (pairAt s 27) 60
-
-abbrev pub plainZone : List ℕ → Bool
-plainZone s = cond (eqb (length s) 24) (is s 23 (code "Z")) (cond (eqb (length s) 29) (plainOffset s) false)
-
-abbrev pub plain : List ℕ → Bool
-plain s = cond (plainZone s) (plainMarks s && plainDate s && plainClock s) false

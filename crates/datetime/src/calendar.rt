@@ -29,7 +29,7 @@ pub fn leap(c: u64, x: u64) -> bool
 // The days of a month: 31 and 30 by turns, beginning again in August.
 pub fn month_days(l: bool, m: u64) -> u64
     requires { ⌜ m < 256 ⌝ }
-    ensures { λ r. ⌜ r ≡ monthLength l m ⌝ }
+    ensures { λ r. ⌜ (r ≡ monthLength l m) × (r ≤ 31) ⌝ }
 {
     if m == 2 {
         if l {

@@ -18,10 +18,11 @@ pub enum InstantRead {
 pub fn read_datetime(s: &[u8]) -> InstantRead
     ensures { λ r. ⌜ r ≡ readDateTime (now (s .entry)) ⌝ }
 {
-    if reader::plain(s) {
-        return InstantRead::Value(reader::instant(s));
+    let found = reader::verdict(s);
+    match found {
+        form::Verdict::Fits => InstantRead::Value(reader::instant(s)),
+        form::Verdict::Stops(n) => InstantRead::Refused(n),
     }
-    InstantRead::Refused(reader::stop(s))
 }
 
 // Writes the text of an instant to the front of the buffer: 24 bytes, always with `Z`. Refused are an instant outside the years 1000 to

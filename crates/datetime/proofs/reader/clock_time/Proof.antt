@@ -1,6 +1,6 @@
 -- `clock_time`: the numbers of a clock time that was tested.
 use native.Mathlib.Omega.{arith}
-use Rattle.datetime.proofs.Quick.{clocked}
+use Rattle.datetime.proofs.Passed.{clocked}
 use borrow.Author.Needs.{needs}
 use Rattle.datetime.proofs.reader.clock_time.Statement.{statement}
 use Rattle.datetime.proofs.reader.clock_time.Tie as tie

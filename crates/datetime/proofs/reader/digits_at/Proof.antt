@@ -1,7 +1,7 @@
 -- `digits_at`: two digits that were tested show their number.
 use mathlib.Core.Path.{subst⁻¹, _∙_}
 use Prim.Native.Nat.{ℕ, _<_}
-use Rattle.datetime.proofs.Quick.{shown-number}
+use Rattle.datetime.proofs.Passed.{shown-number}
 use borrow.Author.Needs.{needs}
 use Rattle.datetime.proofs.reader.digits_at.Statement.{statement}
 use Rattle.datetime.proofs.reader.digits_at.Tie as tie

@@ -3,14 +3,14 @@ use mathlib.Core.Path.{refl, sym, _∙_}
 use mir.Facts.{toZ-ofZ}
 use borrow.Author.Tests.{eqb-false}
 use native.Mathlib.Omega.{arith}
-use Rattle.datetime.proofs.Quick.{parts, signed, ends-utc, ends-away}
+use Rattle.datetime.proofs.Passed.{whole, ends-utc, ends-away, other-sign}
 use Rattle.datetime.proofs.Values.{ahead, behind, neither}
 use borrow.Author.Needs.{needs}
 use Rattle.datetime.proofs.reader.instant.Statement.{statement}
 use Rattle.datetime.proofs.reader.instant.Tie as tie
 
 local-time-requires : tie.Need-local-time-requires
-local-time-requires c κs = parts (c .before .args .s .now) (c .before .pre)
+local-time-requires c κs = whole (c .before .args .s .now) (c .before .pre)
 
 difference-requires : tie.Need-difference-requires
 difference-requires c κs = search needs
@@ -25,11 +25,13 @@ returns c = let s = c .before .before .before .before in
     (λ e. eqb-false 90 45 refl (sym z ∙ e))
 
 offset-requires : tie.Need-offset-requires
-offset-requires c κs = let s = c .before .before .before in ends-away (s .args .s .now) (s .pre) (c .if1 .left)
+offset-requires c κs = let s = c .before .before .before in
+    let z = ends-away (s .args .s .now) (s .pre) (c .if1 .left) in
+    (omega (arith, z .long), z .offset)
 
 shared-slice-read-sign : tie.Need-shared-slice-read-sign
 shared-slice-read-sign c = let s = c .before .before .before .before .before in
-    omega (arith, parts (s .args .s .now) (s .pre) .0)
+    omega (arith, whole (s .args .s .now) (s .pre) .0)
 
 add-difference : tie.Need-add-difference
 add-difference c = search needs
@@ -55,7 +57,7 @@ returns-3 : tie.Need-returns-3
 returns-3 c = let s = c .before .before .before .before .before .before .before in
     let local = c .before .before .before .before .before .local-time in
     let away = c .before .before .before .offset in
-    let minus = signed (s .args .s .now) (ends-away (s .args .s .now) (s .pre) (c .before .before .before .before .if1 .left) .1)
+    let minus = other-sign _ (ends-away (s .args .s .now) (s .pre) (c .before .before .before .before .if1 .left) .sign)
     (c .before .if2 .left) in
     toZ-ofZ (record { sfits = c .difference3 .ok })
     ∙ c .difference3 .ensures

@@ -1,6 +1,6 @@
 -- `local_time`: the numbers of a date that was tested are in their ranges.
 use native.Mathlib.Omega.{arith}
-use Rattle.datetime.proofs.Quick.{dated, date-ranges}
+use Rattle.datetime.proofs.Passed.{dated, date-ranges}
 use Rattle.datetime.proofs.Values.{time-counted}
 use borrow.Author.Needs.{needs}
 use Rattle.datetime.proofs.reader.local_time.Statement.{statement}

@@ -1,6 +1,6 @@
 -- `offset`: the numbers of an offset that was tested.
 use native.Mathlib.Omega.{arith}
-use Rattle.datetime.proofs.Quick.{set-off}
+use Rattle.datetime.proofs.Passed.{set-off}
 use borrow.Author.Needs.{needs}
 use Rattle.datetime.proofs.reader.offset.Statement.{statement}
 use Rattle.datetime.proofs.reader.offset.Tie as tie

@@ -1,6 +1,6 @@
 -- `two`: its test is that of the definition.
 use native.Mathlib.Omega.{arith}
-use Rattle.datetime.proofs.Quick.{digits-range}
+use Rattle.datetime.proofs.Onward.{digits-range}
 use borrow.Author.Needs.{needs}
 use Rattle.datetime.proofs.reader.two.Statement.{statement}
 use Rattle.datetime.proofs.reader.two.Tie as tie
