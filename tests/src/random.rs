@@ -11,7 +11,7 @@ impl Random {
         Random { state: name.bytes().fold(0xcbf2_9ce4_8422_2325, fold) | 1 }
     }
 
-    pub fn next(&mut self) -> u64 {
+    pub fn number(&mut self) -> u64 {
         self.state ^= self.state >> 12;
         self.state ^= self.state << 25;
         self.state ^= self.state >> 27;
@@ -20,13 +20,13 @@ impl Random {
 
     /// A number below `limit`, which is not 0.
     pub fn below(&mut self, limit: usize) -> usize {
-        ((u128::from(self.next()) * limit as u128) >> 64) as usize
+        ((u128::from(self.number()) * limit as u128) >> 64) as usize
     }
 
     /// A number from `low` to `high`, both possible.
     pub fn within(&mut self, low: i64, high: i64) -> i64 {
         let width = i128::from(high) - i128::from(low) + 1;
-        (i128::from(low) + ((i128::from(self.next()) * width) >> 64)) as i64
+        (i128::from(low) + ((i128::from(self.number()) * width) >> 64)) as i64
     }
 
     pub fn one_in(&mut self, count: usize) -> bool {
@@ -38,7 +38,7 @@ impl Random {
     }
 
     pub fn byte(&mut self) -> u8 {
-        (self.next() >> 56) as u8
+        (self.number() >> 56) as u8
     }
 
     pub fn bytes(&mut self, count: usize) -> Vec<u8> {

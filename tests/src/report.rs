@@ -11,6 +11,11 @@ pub struct Group {
 }
 
 impl Group {
+    /// A comparison that was made elsewhere and found no difference.
+    pub fn count(&mut self) {
+        self.compared += 1;
+    }
+
     /// `about` is asked only on a difference.
     pub fn same<T: PartialEq + Debug>(&mut self, ours: T, expected: T, about: impl Fn() -> String) -> Result<(), Difference> {
         self.compared += 1;
@@ -34,10 +39,19 @@ impl Group {
 pub struct Report {
     passed: u64,
     failed: u64,
+    /// With which words the names of the groups start that are wanted; empty for all.
+    wanted: String,
 }
 
 impl Report {
+    pub fn of(wanted: String) -> Report {
+        Report { wanted, ..Report::default() }
+    }
+
     pub fn group(&mut self, name: &str, checks: impl FnOnce(&mut Group) -> Result<(), Difference>) {
+        if !name.starts_with(&self.wanted) {
+            return;
+        }
         let mut group = Group { compared: 0 };
         match checks(&mut group) {
             Ok(()) => {

@@ -25,7 +25,7 @@ fn ten_thousandths(text: &[u8]) -> i128 {
     decimal(whole) * 10_000 + decimal(&part)
 }
 
-/// 01: "1 for an amount .. that no text reads to"; W2: units above 10^18 - 1 or a remainder above 9,999.
+/// 01: "1 for an amount .. that no text reads to"; these are units above 10^18 - 1 or a remainder above 9,999.
 pub fn write(units: u64, remainder: u16, room: usize) -> Writing {
     if u128::from(units) >= 10_u128.pow(18) || remainder > 9_999 {
         return Err(NOT_IN_FORM);

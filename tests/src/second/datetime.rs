@@ -31,7 +31,7 @@ pub fn read(text: &[u8]) -> Reading<i64> {
     Ok((local - offset * 60_000 - days_before(1970, 1) * DAY) as i64)
 }
 
-/// 22 for an instant outside years 1000-9999 UTC, then 23 (W1).
+/// 22 for an instant outside years 1000-9999 UTC, then 23.
 pub fn write(instant: i64, room: usize) -> Writing {
     let since = i128::from(instant) + days_before(1970, 1) * DAY;
     let (days, of_day) = (since.div_euclid(DAY), since.rem_euclid(DAY));

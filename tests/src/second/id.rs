@@ -17,7 +17,7 @@ pub fn read(text: &[u8]) -> Reading<Vec<u8>> {
     Ok((0..32).step_by(2).map(pair).collect())
 }
 
-/// 01: "1 for an .. id that no text reads to"; W2: also for another length than 16.
+/// 01: "1 for an .. id that no text reads to"; also for another length than 16.
 pub fn write(id: &[u8], room: usize) -> Writing {
     let digits: String = id.iter().map(|byte| format!("{byte:02x}")).collect();
     if digits.len() != 32 {

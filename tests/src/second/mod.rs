@@ -2,6 +2,7 @@
 //! forms are the published regular expressions, arithmetic is on 128 bits.
 
 pub mod amount;
+pub mod book;
 pub mod code;
 pub mod condition;
 pub mod currency;

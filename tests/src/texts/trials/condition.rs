@@ -1,35 +1,15 @@
 //! Condition and fulfilment: the library beside the second implementation.
 
 use super::lent::{stored, written};
-use super::{readers, text, texts, Field, EACH, ROOMS};
+use super::{readers, Field, EACH, ROOMS};
 use crate::face;
 use crate::random::Random;
 use crate::report::{shown, Difference, Group, Report};
+use crate::samples::condition::{Condition, EXAMPLE};
+use crate::samples::{text, Samples};
 use crate::second::condition;
 
-struct Condition;
-
-/// 001, 4.2.17.2.1 without its padding (4.2.18.2.1): "Bill & Melinda Gates Foundation!".
-const EXAMPLE: &str = "QmlsbCAmIE1lbGluZGEgR2F0ZXMgRm91bmRhdGlvbiE";
-
 impl Field for Condition {
-    const NAME: &'static str = "condition";
-
-    fn valid(random: &mut Random) -> Vec<u8> {
-        random.text(condition::ALPHABET, 43)
-    }
-
-    fn models() -> Vec<Vec<u8>> {
-        let mixed = [&condition::ALPHABET[21..], &condition::ALPHABET[..43]].map(<[u8]>::to_vec);
-        texts(&[EXAMPLE, &"A".repeat(43), &"_".repeat(43)]).into_iter().chain(mixed).collect()
-    }
-
-    fn limits() -> Vec<Vec<u8>> {
-        let lengths = (0..=90).flat_map(|length| ["A", "_", "=", "+"].map(|letter| letter.repeat(length)));
-        let ends = (38..=46).flat_map(|length| ["=", "==", "+", "/", " ", "\n"].map(|end| "a".repeat(length) + end));
-        lengths.chain(ends).map(String::into_bytes).collect()
-    }
-
     fn compare(group: &mut Group, text: &[u8]) -> Result<(), Difference> {
         compare_with_room(group, text, 32)
     }

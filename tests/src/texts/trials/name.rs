@@ -1,14 +1,15 @@
 //! FSP name: the library beside the second implementation.
 
-use super::{readers, texts, verdict, Field};
+use super::{readers, verdict, Field};
 use crate::face;
 use crate::random::Random;
 use crate::report::{shown, Difference, Group, Report};
+use crate::samples::{texts, Samples};
 use crate::second::name;
 
 struct Name;
 
-impl Field for Name {
+impl Samples for Name {
     const NAME: &'static str = "name";
 
     fn valid(random: &mut Random) -> Vec<u8> {
@@ -26,7 +27,9 @@ impl Field for Name {
         let one_last = (0..=40).flat_map(|length| edges.map(|byte| [vec![b'n'; length], vec![byte]].concat()));
         lengths.chain(one_last).collect()
     }
+}
 
+impl Field for Name {
     fn compare(group: &mut Group, text: &[u8]) -> Result<(), Difference> {
         group.same(face::read_name(text), verdict(&name::read(text)), || shown(text))
     }

@@ -240,7 +240,7 @@ fn codes(characters: &[u8]) -> Both {
     (reading(seen.verdict, number(seen.value)), code::read(characters).map(number))
 }
 
-/// Writers of amount, id and condition: 001's examples and W2's refusals.
+/// Writers of amount, id and condition: 001's examples, and values that no text reads to.
 fn other_texts(group: &mut Group) -> Result<(), Difference> {
     let rows: [((u64, u16), Written); 6] = [
         ((5, 5000), Ok("5.5")),

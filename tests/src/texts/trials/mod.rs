@@ -17,6 +17,7 @@ use crate::face::{Verdict, ALL};
 use crate::mutate::{damaged, each_byte_at_each_place};
 use crate::random::Random;
 use crate::report::{Difference, Group, Report};
+use crate::samples::Samples;
 use crate::second::Reading;
 use std::ops::RangeInclusive;
 
@@ -40,19 +41,8 @@ const EACH: usize = 250_000;
 /// Room in the buffers that are lent: below, at and above the length of every text.
 const ROOMS: RangeInclusive<usize> = 0..=60;
 
-/// What the reader trials need to know of a field.
-trait Field {
-    const NAME: &'static str;
-
-    /// A text in form, at random.
-    fn valid(random: &mut Random) -> Vec<u8>;
-
-    /// Texts in form, each to be tried with every byte at every place.
-    fn models() -> Vec<Vec<u8>>;
-
-    /// Texts on both sides of each limit.
-    fn limits() -> Vec<Vec<u8>>;
-
+/// A field whose texts are tried.
+trait Field: Samples {
     /// Holds the library's answer to the second implementation's.
     fn compare(group: &mut Group, text: &[u8]) -> Result<(), Difference>;
 }
@@ -93,12 +83,4 @@ fn verdict<T>(reading: &Reading<T>) -> Verdict {
         Ok(_) => ALL,
         Err(offset) => Verdict(*offset as u64),
     }
-}
-
-fn text(characters: &str) -> Vec<u8> {
-    characters.as_bytes().to_vec()
-}
-
-fn texts(all: &[&str]) -> Vec<Vec<u8>> {
-    all.iter().map(|characters| text(characters)).collect()
 }

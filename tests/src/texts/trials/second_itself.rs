@@ -1,8 +1,8 @@
 //! Checks of the second implementation alone: that its way of judging a form is right, and its calendar.
 
-use super::text;
 use crate::random::Random;
 use crate::report::{shown, Difference, Group, Report};
+use crate::samples::text;
 use crate::second::datetime;
 use crate::second::expression::Form::{self, Byte, Either, Empty, Nothing, Then, Times};
 

@@ -1,14 +1,15 @@
 //! Currency: the library beside the second implementation.
 
-use super::{readers, texts, verdict, Field};
+use super::{readers, verdict, Field};
 use crate::face;
 use crate::random::Random;
 use crate::report::{shown, Difference, Group, Report};
+use crate::samples::{texts, Samples};
 use crate::second::currency;
 
 struct Currency;
 
-impl Field for Currency {
+impl Samples for Currency {
     const NAME: &'static str = "currency";
 
     fn valid(random: &mut Random) -> Vec<u8> {
@@ -23,7 +24,9 @@ impl Field for Currency {
         let lengths = (0..=8).flat_map(|length| ["A", "Z", "@", "[", "a"].map(|letter| letter.repeat(length).into_bytes()));
         lengths.chain(texts(&["xts", "Xts", "XT", "XT ", " XT", "XTS\n", "XT1", "X-S"])).collect()
     }
+}
 
+impl Field for Currency {
     fn compare(group: &mut Group, text: &[u8]) -> Result<(), Difference> {
         group.same(face::read_currency(text), verdict(&currency::read(text)), || shown(text))
     }

@@ -1,13 +1,10 @@
-//! An independent second implementation of the field texts and SHA-256, and the comparison of the proved
-//! library with it. Prints a line for each group of checks and, last, how many passed and failed.
+//! The comparison of the proved readers, writers and hash with the second implementation. Prints a line for
+//! each group of checks and, last, how many passed and failed.
 
 mod face;
-mod mutate;
-mod random;
-mod report;
-mod second;
 mod trials;
 
+use common::{mutate, random, report, samples, second};
 use std::process::ExitCode;
 
 fn main() -> ExitCode {

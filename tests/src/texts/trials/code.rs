@@ -1,14 +1,15 @@
 //! Abort code: the library beside the second implementation.
 
-use super::{readers, texts, verdict, Field};
+use super::{readers, verdict, Field};
 use crate::face::{self, Seen};
 use crate::random::Random;
 use crate::report::{shown, Difference, Group, Report};
+use crate::samples::{texts, Samples};
 use crate::second::code;
 
 struct Code;
 
-impl Field for Code {
+impl Samples for Code {
     const NAME: &'static str = "code";
 
     fn valid(random: &mut Random) -> Vec<u8> {
@@ -25,7 +26,9 @@ impl Field for Code {
             .chain(texts(&["0999", "1000", "9999", "10000", "-100", "+100", "1e10", " 100", "100 ", "5100\n", "51.0"]))
             .collect()
     }
+}
 
+impl Field for Code {
     fn compare(group: &mut Group, text: &[u8]) -> Result<(), Difference> {
         let before = 0xabcd;
         let second = code::read(text);

@@ -1,15 +1,16 @@
 //! Packet: the library beside the second implementation.
 
-use super::{readers, texts, verdict, Field};
+use super::{readers, verdict, Field};
 use crate::face;
 use crate::random::Random;
 use crate::report::{shown, Difference, Group, Report};
+use crate::samples::{texts, Samples};
 use crate::second::condition::ALPHABET;
 use crate::second::packet::{self, MOST};
 
 struct Packet;
 
-impl Field for Packet {
+impl Samples for Packet {
     const NAME: &'static str = "packet";
 
     fn valid(random: &mut Random) -> Vec<u8> {
@@ -29,7 +30,9 @@ impl Field for Packet {
         let padded = lengths.iter().flat_map(|length| (0..=4).map(|equals| with_equals(*length, equals)));
         padded.chain(long_damaged()).chain(texts(ODD)).collect()
     }
+}
 
+impl Field for Packet {
     fn compare(group: &mut Group, text: &[u8]) -> Result<(), Difference> {
         group.same(face::read_packet(text), verdict(&packet::read(text)), || shown(text))
     }

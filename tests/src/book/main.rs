@@ -1,0 +1,72 @@
+//! The comparison of the proved book, through its exported calls, with the second implementation. Prints a
+//! line for each group of checks and, last, how many passed and failed. SECONDS=n in the environment makes it
+//! go on for n seconds with other histories; SEED=text gives them a seed, so that they are the same again. An
+//! argument asks for the groups alone whose names start with it; `speed` asks for times instead.
+
+mod damage;
+mod each;
+mod face;
+mod fields;
+mod histories;
+mod history;
+mod host;
+mod large;
+mod limits;
+mod scripts;
+mod second_itself;
+mod speed;
+mod tally;
+mod texts;
+mod world;
+
+use common::{mutate, random, report, samples, second};
+use std::env;
+use std::process::ExitCode;
+use std::time::{SystemTime, UNIX_EPOCH};
+
+fn main() -> ExitCode {
+    let wanted = env::args().nth(1).unwrap_or_default();
+    if wanted == "speed" {
+        speed::run();
+        return ExitCode::SUCCESS;
+    }
+    let mut report = report::Report::of(wanted);
+    let mut tally = tally::Tally::default();
+    second_itself::run(&mut report);
+    fields::run(&mut report);
+    scripted(&mut report, &mut tally);
+    each::run(&mut report, &mut tally);
+    limits::run(&mut report, &mut tally);
+    large::run(&mut report, &mut tally);
+    histories::run(&mut report, &mut tally);
+    report.group("every answer of every call was given often enough", |group| tally.judge(group));
+    if let Some(seconds) = env::var("SECONDS").ok().and_then(|text| text.parse().ok()) {
+        let now = SystemTime::now().duration_since(UNIX_EPOCH).map_or(0, |since| since.as_nanos());
+        let seed = env::var("SEED").unwrap_or_else(|_| now.to_string());
+        histories::run_on(&mut report, &mut tally, seconds, &seed);
+    }
+    tally.print();
+    if report.finish() {
+        ExitCode::SUCCESS
+    } else {
+        ExitCode::FAILURE
+    }
+}
+
+/// The histories with written answers, with both implementations.
+fn scripted(report: &mut report::Report, tally: &mut tally::Tally) {
+    let small = ("full books", scripts::script(scripts::SMALL));
+    let all = scripts::usual().into_iter().map(|each| (each, (64, 100))).chain([(small, (2, 3))]);
+    for ((name, lines), (open, finished)) in all {
+        report.group(&format!("script: {name}"), |group| {
+            let lengths = world::Lengths::places(open, finished);
+            let mut history = history::History::new(lengths);
+            lines.iter().try_for_each(|(line, expected)| {
+                let call = world::Call::line(line);
+                let outcome = history.call(group, tally, lengths, call.clone())?;
+                let printed = second_itself::printed(&call, history.world(), outcome.answer);
+                group.same(&printed, expected, || line.clone())
+            })
+        });
+    }
+}
