@@ -1,0 +1,4 @@
+pub mod Replies
+pub mod Names
+pub mod Held
+pub mod Ends

@@ -1,0 +1,3 @@
+pub mod Alike
+pub mod Fits
+pub mod Form

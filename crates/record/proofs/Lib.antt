@@ -1,0 +1,4 @@
+pub mod Search
+pub mod Stores
+pub mod Fields
+pub mod Rows
