@@ -24,7 +24,8 @@ use Rattle.shape.specs.Shape.{shape, lengthsOk, accountOk, noneTwice, op
 use Rattle.shape.specs.Scan.{accountsOk, openBookOk, endedBookOk, above, below, belowOf}
 use Rattle.shape.specs.Sound.{SoundRecord, Sound}
 use Rattle.shape.proofs.Walk.{both, all-at, all-each, sum-at, count-some, length-rows, rows-at}
-use Rattle.shape.proofs.Facts.{account-sound, account-ok, position-most, slot-sound, slot-ok, ended-sound, ended-ok, lengths-sound, lengths-ok}
+use Rattle.shape.proofs.Facts.{account-sound, account-ok, position-most, lengths-sound, lengths-ok}
+use Rattle.shape.proofs.Facts.{slot-sound, slot-ok, ended-sound, ended-ok}
 use Rattle.shape.proofs.Names.{length-accounts, account-at}
 use Rattle.shape.proofs.Bounds.{same-yes, total-split, most-above}
 use Rattle.shape.proofs.Together.{together, judged, judged-at, few-accounts}

@@ -1,0 +1,4 @@
+pub mod Fields
+pub mod Joining
+pub mod Theorems
+pub mod Kept

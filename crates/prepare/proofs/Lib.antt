@@ -1,0 +1,9 @@
+pub mod Texts
+pub mod Tests
+pub mod Fresh
+pub mod Places
+pub mod Verdict
+pub mod Stepped
+pub mod Positioned
+pub mod Kept
+pub mod Theorems
