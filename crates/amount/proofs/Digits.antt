@@ -11,15 +11,15 @@ use native.Mathlib.Numerals.{add-one}
 use lib.Dec.{T, eqb, eqb→eq}
 use lib.Pow.{pow-add}
 use lib.ListN.{length, set, getD, length-append}
+use Rattle.octets.specs.Decimal.{inDigits}
 use Rattle.octets.proofs.Lists.{sets-append}
 use Rattle.octets.proofs.Computed.{below, below-at}
 use lib.Seq.{sets, set-comm}
 use borrow.Author.Tests.{lt-ltb, le-ltb, eq-eqb, ne-eqb}
 use Rattle.amount.specs.Amount.{digit, wholeText, places}
-use Rattle.amount.specs.Digits.{lastDigits, pointed, Tables}
+use Rattle.amount.specs.Digits.{pointed, Tables}
 
-pub length-last : (k n : ℕ) → length (lastDigits k n) ≡ k
-unfolding lastDigits
+pub length-last : (k n : ℕ) → length (inDigits k n) ≡ k
 length-last zero n = refl
 length-last (suc k) n = simp (length-append, length-last k (n / 10)) (omega arith)
 
@@ -32,15 +32,14 @@ sets-last (y ∷ ys) x l i =
     ∙ ap (λ (m : List ℕ). sets m (suc i) ys)
     (ap (λ (j : ℕ). set (set l i y) j x) e ∙ set-comm l i (i + suc (length ys)) y x (omega arith))
 
-pub fill-step : (l : List ℕ) (i k n : ℕ) → sets (set l (i + k) (48 + n % 10)) i (lastDigits k (n / 10)) ≡ sets l i (lastDigits (suc k) n)
-unfolding lastDigits
+pub fill-step : (l : List ℕ) (i k n : ℕ) → sets (set l (i + k) (48 + n % 10)) i (inDigits k (n / 10)) ≡ sets l i (inDigits (suc k) n)
 fill-step l i k n =
-    sym (sets-last (lastDigits k (n / 10)) (digit (n % 10)) l i
-    ∙ ap (λ (j : ℕ). sets (set l (i + j) (48 + n % 10)) i (lastDigits k (n / 10))) (length-last k (n / 10)))
+    sym (sets-last (inDigits k (n / 10)) (digit (n % 10)) l i
+    ∙ ap (λ (j : ℕ). sets (set l (i + j) (48 + n % 10)) i (inDigits k (n / 10))) (length-last k (n / 10)))
 
 -- a number of suc c digits, the first not 0
-pub width : (k c n : ℕ) → (0 < c → 10 ^ c ≤ n) → n < 10 ^ suc c → c ≤ k → wholeText (suc k) n ≡ lastDigits (suc c) n
-unfolding wholeText lastDigits
+pub width : (k c n : ℕ) → (0 < c → 10 ^ c ≤ n) → n < 10 ^ suc c → c ≤ k → wholeText (suc k) n ≡ inDigits (suc c) n
+unfolding wholeText
 width k zero n a b l =
     let h : n < 10 = omega arith in
     let e : n ≡ n % 10 = omega arith in
@@ -69,8 +68,7 @@ tens n w z =
     (ap (λ (m : ℕ). m / (w * 10)) e ∙ p .0, ap (λ (m : ℕ). m % (w * 10)) e ∙ p .1)
 
 -- the first of k + 1 digits
-front : (k n : ℕ) → n < 10 ^ suc k → lastDigits (suc k) n ≡ digit (n / 10 ^ k) ∷ lastDigits k (n % 10 ^ k)
-unfolding lastDigits
+front : (k n : ℕ) → n < 10 ^ suc k → inDigits (suc k) n ≡ digit (n / 10 ^ k) ∷ inDigits k (n % 10 ^ k)
 front zero n h = ap (λ (d : ℕ). digit d ∷ []) (omega arith)
 front (suc k) n h =
     let g : n < 10 ^ suc k * 10 = rw (pow-suc 10 (suc k)) at h in
@@ -80,7 +78,7 @@ front (suc k) n h =
     let x : n / 10 % 10 ^ k ≡ n % 10 ^ suc k / 10 = omega arith in
     let y : n % 10 ≡ n % 10 ^ suc k % 10 = omega arith in
     ap (λ (s : List ℕ). s ++ (digit (n % 10) ∷ [])) (front k (n / 10) (omega arith))
-    ∙ (λ i. digit (sym q i) ∷ (lastDigits k (x i) ++ (digit (y i) ∷ [])))
+    ∙ (λ i. digit (sym q i) ∷ (inDigits k (x i) ++ (digit (y i) ∷ [])))
 
 -- the places after the point: none where nothing is left
 pub places-none : (k n : ℕ) → n ≡ 0 → places k n ≡ []
@@ -107,8 +105,8 @@ trim (suc k) n e h =
     ]
 
 -- a last digit that is not 0: all are written
-pub full : (k n : ℕ) → (n % 10 ≡ 0 → ⊥) → n < 10 ^ k → places k n ≡ lastDigits k n
-unfolding places lastDigits
+pub full : (k n : ℕ) → (n % 10 ≡ 0 → ⊥) → n < 10 ^ k → places k n ≡ inDigits k n
+unfolding places
 full zero n e h = absurd (e (omega arith))
 full (suc zero) n e h = let d : n / 1 ≡ n % 10 = omega arith in simp (ne-eqb n 0 (omega arith)) (ap (λ (d : ℕ). digit d ∷ []) d)
 full (suc (suc k)) n e h =
@@ -119,28 +117,26 @@ full (suc (suc k)) n e h =
 
 -- the steps of the writer's loops
 pub fill-at : (l : List ℕ) (from k n : ℕ) → from < k →
-    sets (set l (k - 1) (digit (n % 10))) from (lastDigits (k - 1 - from) (n / 10)) ≡ sets l from (lastDigits (k - from) n)
+    sets (set l (k - 1) (digit (n % 10))) from (inDigits (k - 1 - from) (n / 10)) ≡ sets l from (inDigits (k - from) n)
 fill-at l from k n h =
     let e : k - from ≡ suc (k - 1 - from) = omega arith in
     let f : k - 1 ≡ from + (k - 1 - from) = omega arith in
-    rw e (ap (λ (j : ℕ). sets (set l j (digit (n % 10))) from (lastDigits (k - 1 - from) (n / 10))) f ∙ fill-step l from (k - 1 - from) n)
+    rw e (ap (λ (j : ℕ). sets (set l j (digit (n % 10))) from (inDigits (k - 1 - from) (n / 10))) f ∙ fill-step l from (k - 1 - from) n)
 
 pub fill-pair : (l : List ℕ) (from k n : ℕ) → 1 < k - from →
-    sets (set (set l (k - 1) (digit (n % 100 % 10))) (k - 1 - 1) (digit (n % 100 / 10))) from (lastDigits (k - 1 - 1 - from) (n / 100))
-    ≡ sets l from (lastDigits (k - from) n)
+    sets (set (set l (k - 1) (digit (n % 100 % 10))) (k - 1 - 1) (digit (n % 100 / 10))) from (inDigits (k - 1 - 1 - from) (n / 100))
+    ≡ sets l from (inDigits (k - from) n)
 fill-pair l from k n h =
     let x : n % 100 % 10 ≡ n % 10 = omega arith in
     let y : n % 100 / 10 ≡ n / 10 % 10 = omega arith in
     let z : n / 100 ≡ n / 10 / 10 = omega arith in
-    (λ i. sets (set (set l (k - 1) (digit (x i))) (k - 1 - 1) (digit (y i))) from (lastDigits (k - 1 - 1 - from) (z i)))
+    (λ i. sets (set (set l (k - 1) (digit (x i))) (k - 1 - 1) (digit (y i))) from (inDigits (k - 1 - 1 - from) (z i)))
     ∙ fill-at (set l (k - 1) (digit (n % 10))) from (k - 1) (n / 10) (omega arith) ∙ fill-at l from k n (omega arith)
 
-pub fill-last : (l : List ℕ) (from k n : ℕ) → from < k → k - from ≤ 1 → set l from (digit (n % 10)) ≡ sets l from (lastDigits (k - from) n)
-unfolding lastDigits
+pub fill-last : (l : List ℕ) (from k n : ℕ) → from < k → k - from ≤ 1 → set l from (digit (n % 10)) ≡ sets l from (inDigits (k - from) n)
 fill-last l from k n h b = let e : k - from ≡ 1 = omega arith in rw e
 
-pub fill-none : (l : List ℕ) (from k n : ℕ) → k ≤ from → l ≡ sets l from (lastDigits (k - from) n)
-unfolding lastDigits
+pub fill-none : (l : List ℕ) (from k n : ℕ) → k ≤ from → l ≡ sets l from (inDigits (k - from) n)
 fill-none l from k n h = let e : k - from ≡ 0 = omega arith in rw e
 
 pub trim-step : (k n : ℕ) → 0 < n → n % 10 ≡ 0 → n < 10 ^ k → (0 < k) × (n / 10 < 10 ^ (k - 1)) × (places k n ≡ places (k - 1) (n / 10))
@@ -160,14 +156,14 @@ module _ (n count power : ℕ) (a : 1 ≤ count) (e : power ≡ 10 ^ (count - 1)
   pub count-step : (k : ℕ) → power * 10 ^ k ≡ 10 ^ (count + k - 1)
   count-step k = let f : count + k - 1 ≡ count - 1 + k = omega arith in rw (f, pow-add 10 (count - 1) k, e)
 
-  pub counted : count ≤ 18 → (1 < count → power ≤ n) → n / 10 < power → wholeText 18 n ≡ lastDigits count n
+  pub counted : count ≤ 18 → (1 < count → power ≤ n) → n / 10 < power → wholeText 18 n ≡ inDigits count n
   counted b l h =
       let f : suc (count - 1) ≡ count = omega arith in
       let g : n < 10 ^ suc (count - 1) = rw (pow-suc 10 (count - 1)) (omega arith) in
-      width 17 (count - 1) n (λ z. let x = l (omega arith) in omega arith) g (omega arith) ∙ ap (λ (k : ℕ). lastDigits k n) f
+      width 17 (count - 1) n (λ z. let x = l (omega arith) in omega arith) g (omega arith) ∙ ap (λ (k : ℕ). inDigits k n) f
 
 -- all places from the first
-pub from-start : (l : List ℕ) (k n : ℕ) → sets l 0 (lastDigits (k - 0) n) ≡ sets l 0 (lastDigits k n)
+pub from-start : (l : List ℕ) (k n : ℕ) → sets l 0 (inDigits (k - 0) n) ≡ sets l 0 (inDigits k n)
 from-start l k n = let e : k - 0 ≡ k = omega arith in rw e
 
 -- the parts of a text, one after the other
@@ -179,21 +175,21 @@ pub length-some : (k n : ℕ) → (k ≡ 0 → ⊥) → length (pointed k n) ≡
 unfolding pointed
 length-some k n h = simp (ne-eqb k 0 h, length-last k n) (omega arith)
 
-module _ (out x : List ℕ) (whole units count number : ℕ) (e : x ≡ sets out 0 (lastDigits whole units)) where
-  pub text-whole : count ≡ 0 → x ≡ sets out 0 (lastDigits whole units ++ pointed count number)
+module _ (out x : List ℕ) (whole units count number : ℕ) (e : x ≡ sets out 0 (inDigits whole units)) where
+  pub text-whole : count ≡ 0 → x ≡ sets out 0 (inDigits whole units ++ pointed count number)
   unfolding pointed
   text-whole z = simp (eq-eqb count 0 z, append-nil) e
 
   pub text-pointed : (y : List ℕ) → (count ≡ 0 → ⊥) →
-      y ≡ sets (set x whole 46) (whole + 1) (lastDigits (whole + 1 + count - (whole + 1)) number) →
-      y ≡ sets out 0 (lastDigits whole units ++ pointed count number)
+      y ≡ sets (set x whole 46) (whole + 1) (inDigits (whole + 1 + count - (whole + 1)) number) →
+      y ≡ sets out 0 (inDigits whole units ++ pointed count number)
   unfolding pointed
   text-pointed y z f =
       let c : whole + 1 + count - (whole + 1) ≡ count = omega arith in
-      let l : 0 + length (lastDigits whole units) ≡ whole = omega (arith, length-last whole units) in
+      let l : 0 + length (inDigits whole units) ≡ whole = omega (arith, length-last whole units) in
       f ∙ rw (c, add-one whole, e)
-      (simp (ne-eqb count 0 z) (sym (sets-append out 0 (lastDigits whole units) (46 ∷ lastDigits count number)
-      ∙ ap (λ (j : ℕ). sets (sets out 0 (lastDigits whole units)) j (46 ∷ lastDigits count number)) l)))
+      (simp (ne-eqb count 0 z) (sym (sets-append out 0 (inDigits whole units) (46 ∷ inDigits count number)
+      ∙ ap (λ (j : ℕ). sets (sets out 0 (inDigits whole units)) j (46 ∷ inDigits count number)) l)))
 
 -- two tables that pass the test at each number below 100
 abbrev agrees : List ℕ → (ℕ → ℕ) → ℕ → Bool

@@ -7,9 +7,9 @@ use native.Mathlib.Nat.{pow-suc, one-le-pow, mod-lt, div-add-mod', mul-le-mul-ri
 use native.Mathlib.Decide.{decLt, ℕ-discrete}
 use lib.Seq.{append-snoc}
 use borrow.Author.Tests.{eq-eqb, ne-eqb}
+use Rattle.octets.specs.Decimal.{inDigits}
 use Rattle.amount.specs.Amount.{readAmount, digit, wholeText, places, fractionText, amountText}
 use Rattle.amount.specs.Rest.{wholeRest, placesRest}
-use Rattle.amount.specs.Digits.{lastDigits}
 use Rattle.amount.specs.declared.Amount.{Amount}
 use Rattle.amount.specs.declared.AmountRead.{AmountRead}
 use Rattle.amount.specs.declared.AmountRead.the-variants.{Value}
@@ -30,8 +30,7 @@ size (suc k) n a b = go (decLt n (10 ^ k)) (size k n a)
 
 -- the digits of a whole number, and then f
 digits-read : (c n : ℕ) (f : List ℕ) → c ≤ 17 → 10 ^ c ≤ n → n < 10 ^ suc c →
-    readAmount (lastDigits (suc c) n ++ f) ≡ wholeRest (17 - c) (suc c) n f
-unfolding lastDigits
+    readAmount (inDigits (suc c) n ++ f) ≡ wholeRest (17 - c) (suc c) n f
 digits-read zero n f l a b =
     let e : 48 + n % 10 - 48 ≡ n = omega arith in
     first-digit (48 + n % 10) f (omega arith) (omega arith) ∙ ap (λ (u : ℕ). wholeRest 17 1 u f) e
@@ -40,7 +39,7 @@ digits-read (suc c) n f l a b =
     let h : n < 10 ^ suc c * 10 = rw (pow-suc 10 (suc c)) at b in
     let k : 17 - c ≡ suc (17 - suc c) = omega arith in
     let e : n / 10 * 10 + (48 + n % 10 - 48) ≡ n = omega arith in
-    rw (append-snoc (lastDigits (suc c) (n / 10)) (digit (n % 10)) f)
+    rw (append-snoc (inDigits (suc c) (n / 10)) (digit (n % 10)) f)
     (digits-read c (n / 10) (digit (n % 10) ∷ f) (omega arith) (omega arith) (omega arith)
     ∙ ap (λ (j : ℕ). wholeRest j (suc c) (n / 10) (digit (n % 10) ∷ f)) k
     ∙ whole-digit (suc c) (n / 10) (17 - suc c) (48 + n % 10) f (omega arith) (omega arith)

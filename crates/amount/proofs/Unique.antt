@@ -12,10 +12,9 @@ use Rattle.octets.specs.Ascii.{ascii}
 use Rattle.form.specs.Regex.{judgeFrom}
 use Rattle.form.specs.declared.Verdict.{Verdict}
 use Rattle.form.specs.declared.Verdict.the-variants.{Fits, Stops}
-use Rattle.octets.specs.Decimal.{decimal}
+use Rattle.octets.specs.Decimal.{decimal, inDigits}
 use Rattle.amount.specs.Amount.{readAmount, answer, amountOf, digit, wholeText, places, fractionText, amountText}
 use Rattle.amount.specs.Rest.{wholeRest, placesRest, left}
-use Rattle.amount.specs.Digits.{lastDigits}
 use Rattle.amount.specs.declared.Amount.{Amount}
 use Rattle.amount.specs.declared.AmountRead.{AmountRead}
 use Rattle.amount.specs.declared.AmountRead.the-variants.{Value, Refused}
@@ -31,7 +30,6 @@ refusal n x e f = let z : _≡_ {A = ℕ} 0 1 = cc in omega arith
 
 -- a digit more
 text-more : (u c : ℕ) → 1 ≤ u → u < 10 ^ 17 → 48 ≤ c → c ≤ 57 → wholeText 18 (u * 10 + (c - 48)) ≡ wholeText 18 u ++ (c ∷ [])
-unfolding lastDigits
 text-more u c a b l h =
     let r = size 17 u a b in
     let k = r .0 in
@@ -42,7 +40,7 @@ text-more u c a b l h =
     let e : n / 10 ≡ u = omega arith in
     let f : digit (n % 10) ≡ c = omega arith in
     width 17 (suc k) n (λ _. rw (pow-suc 10 k) (omega arith)) (rw (pow-suc 10 (suc k)) (omega arith)) (omega arith)
-    ∙ (λ i. lastDigits (suc k) (e i) ++ (f i ∷ [])) ∙ ap (λ (s : List ℕ). s ++ (c ∷ [])) (sym (width 17 k u (λ _. y) z (omega arith)))
+    ∙ (λ i. inDigits (suc k) (e i) ++ (f i ∷ [])) ∙ ap (λ (s : List ℕ). s ++ (c ∷ [])) (sym (width 17 k u (λ _. y) z (omega arith)))
 
 -- the kinds of a byte
 data Kind (c : ℕ) : Type 0 where

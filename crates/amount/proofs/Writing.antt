@@ -9,8 +9,9 @@ use borrow.Author.Tests.{lt-ltb, le-ltb, le-leb, lt-leb}
 use Rattle.form.specs.Writing.{intoRoom, bufferAfter}
 use Rattle.form.specs.declared.Written.the-variants.{Length, NotInForm, NoRoom}
 use Rattle.amount.specs.Amount.{wholeText, fractionText, amountText, writeAmount}
-use Rattle.amount.specs.Digits.{lastDigits, pointed}
+use Rattle.amount.specs.Digits.{pointed}
 use Rattle.amount.specs.declared.Amount.{Amount}
+use Rattle.octets.specs.Decimal.{inDigits}
 use Rattle.octets.proofs.Lists.{sets-start}
 use Rattle.amount.proofs.Digits.{length-last}
 
@@ -30,12 +31,12 @@ in-range a room h k = simp (lt-leb (10 ^ 18) (a .units) h, lt-leb (10 ^ 4) (a .r
 pub record Measured (a : Amount) (whole count number size : ℕ) : Type 0 where
   pub units-fit : a .units < 10 ^ 18
   pub remainder-fits : a .remainder < 10 ^ 4
-  pub digits : wholeText 18 (a .units) ≡ lastDigits whole (a .units)
+  pub digits : wholeText 18 (a .units) ≡ inDigits whole (a .units)
   pub fraction : fractionText (a .remainder) ≡ pointed count number
   pub sum : size ≡ whole + length (pointed count number)
 
 module _ {a : Amount} {whole count number size : ℕ} where
-  text : Measured a whole count number size → amountText a ≡ lastDigits whole (a .units) ++ pointed count number
+  text : Measured a whole count number size → amountText a ≡ inDigits whole (a .units) ++ pointed count number
   unfolding amountText
   text m = rw (m .digits, m .fraction)
 
@@ -47,7 +48,7 @@ module _ {a : Amount} {whole count number size : ℕ} where
       rw (in-range a room (m .units-fit) (m .remainder-fits)) (simp (lt-ltb room (length (amountText a)) (omega (arith, long m))))
 
   pub written : Measured a whole count number size → (old out : List ℕ) → size ≤ length old →
-      out ≡ sets old 0 (lastDigits whole (a .units) ++ pointed count number) →
+      out ≡ sets old 0 (inDigits whole (a .units) ++ pointed count number) →
       (Length size ≡ writeAmount a (length old)) × (out ≡ bufferAfter (Length size) (amountText a) old)
   written m old out h e =
       let k : length (amountText a) ≤ length old = omega (arith, long m) in

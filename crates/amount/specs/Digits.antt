@@ -1,21 +1,17 @@
 -- Digits in so many places: the contracts of the writer's inner functions. No public promise cites these.
-use Prim.Native.Nat.{ℕ, zero, suc, _/_, _%_, _<_}
+use Prim.Native.Nat.{ℕ, _/_, _%_, _<_}
 use mathlib.Core.Path.{_≡_}
-use mathlib.Core.List.{List, [], _∷_, _++_}
+use mathlib.Core.List.{List, [], _∷_}
 use mathlib.Core.Bool.{cond}
 use Prim.Native.Char.{code}
 use lib.Dec.{eqb}
 use lib.ListN.{length, getD}
+use Rattle.octets.specs.Decimal.{inDigits}
 use Rattle.amount.specs.Amount.{digit}
-
--- the last k decimal digits of n, zeros in front with them
-unfoldable pub lastDigits : ℕ → ℕ → List ℕ
-lastDigits zero n = []
-lastDigits (suc k) n = lastDigits k (n / 10) ++ (digit (n % 10) ∷ [])
 
 -- the point and k digits after it, or nothing
 unfoldable pub pointed : ℕ → ℕ → List ℕ
-pointed k n = cond (eqb k 0) [] (code "." ∷ lastDigits k n)
+pointed k n = cond (eqb k 0) [] (code "." ∷ inDigits k n)
 
 -- the first and the second digit of each number below 100
 pub record Tables (tens ones : List ℕ) : Type 0 where

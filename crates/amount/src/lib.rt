@@ -4,10 +4,11 @@ ghost use Prim.Native.Nat.{ℕ, _+_, _-_, _*_, _≤_, _<_, _^_, min};
 ghost use mathlib.Core.List.{_++_};
 ghost use lib.ListN.{length, drop, getD};
 ghost use lib.Seq.{sets};
+ghost use Rattle.octets.specs.Decimal.{inDigits};
 ghost use Rattle.form.specs.Writing.{bufferAfter};
 ghost use Rattle.amount.specs.Amount.{readAmount, wholeText, fractionText, amountText, writeAmount};
 ghost use Rattle.amount.specs.Rest.{wholeRest, placesRest, ReadTo};
-ghost use Rattle.amount.specs.Digits.{lastDigits, pointed, Tables};
+ghost use Rattle.amount.specs.Digits.{pointed, Tables};
 use form::Written;
 
 // So many whole units and ten-thousandths of a unit.
@@ -194,7 +195,7 @@ pub fn write_amount(a: Amount, out: &mut [u8]) -> Written
 // The number of digits of a whole part.
 fn digit_count(n: u64) -> usize
     requires { ⌜ n < 10 ^ 18 ⌝ }
-    ensures { λ r. ⌜ (r ≤ 18) × (wholeText 18 n ≡ lastDigits r n) ⌝ }
+    ensures { λ r. ⌜ (r ≤ 18) × (wholeText 18 n ≡ inDigits r n) ⌝ }
 {
     let mut count = 1;
     let mut power: u64 = 1;
@@ -246,7 +247,7 @@ fn text_length(whole: usize, count: usize) -> usize
 // The digits of the whole part, and the point and its places if there are any, into a buffer with room for them.
 fn put_text(units: u64, whole: usize, number: u64, count: usize, out: &mut [u8])
     requires { ⌜ whole + length (pointed count number) ≤ length (now out) ⌝ }
-    ensures { λ r. ⌜ now (out .exit) ≡ sets (now (out .entry)) 0 (lastDigits whole units ++ pointed count number) ⌝ }
+    ensures { λ r. ⌜ now (out .exit) ≡ sets (now (out .entry)) 0 (inDigits whole units ++ pointed count number) ⌝ }
 {
     put_whole(units, out, whole);
     if count == 0 {
@@ -261,7 +262,7 @@ fn put_text(units: u64, whole: usize, number: u64, count: usize, out: &mut [u8])
 // The digits of the whole part. Tables pay for themselves only where there are many.
 fn put_whole(units: u64, out: &mut [u8], whole: usize)
     requires { ⌜ whole ≤ length (now out) ⌝ }
-    ensures { λ r. ⌜ now (out .exit) ≡ sets (now (out .entry)) 0 (lastDigits whole units) ⌝ }
+    ensures { λ r. ⌜ now (out .exit) ≡ sets (now (out .entry)) 0 (inDigits whole units) ⌝ }
 {
     if whole < 9 {
         put_digits(units, out, 0, whole);
@@ -273,7 +274,7 @@ fn put_whole(units: u64, out: &mut [u8], whole: usize)
 // The same for many digits.
 fn put_many(units: u64, out: &mut [u8], whole: usize)
     requires { ⌜ whole ≤ length (now out) ⌝ }
-    ensures { λ r. ⌜ now (out .exit) ≡ sets (now (out .entry)) 0 (lastDigits whole units) ⌝ }
+    ensures { λ r. ⌜ now (out .exit) ≡ sets (now (out .entry)) 0 (inDigits whole units) ⌝ }
 {
     let tens =
         b"0000000000111111111122222222223333333333444444444455555555556666666666777777777788888888889999999999";
@@ -285,7 +286,7 @@ fn put_many(units: u64, out: &mut [u8], whole: usize)
 // The last digits of n into the places from `from` up to `to`, filled from the back.
 fn put_digits(n: u64, out: &mut [u8], from: usize, to: usize)
     requires { ⌜ (from ≤ to) × (to ≤ length (now out)) ⌝ }
-    ensures { λ r. ⌜ now (out .exit) ≡ sets (now (out .entry)) from (lastDigits (to - from) n) ⌝ }
+    ensures { λ r. ⌜ now (out .exit) ≡ sets (now (out .entry)) from (inDigits (to - from) n) ⌝ }
 {
     let mut rest = n;
     let mut k = to;
@@ -299,7 +300,7 @@ fn put_digits(n: u64, out: &mut [u8], from: usize, to: usize)
 // The last digits of n into the same places, two at a time, by tables of the digits of each number below 100.
 fn put_pairs(n: u64, out: &mut [u8], from: usize, to: usize, tens: &[u8], ones: &[u8])
     requires { ⌜ (from ≤ to) × (to ≤ length (now out)) × Tables (now tens) (now ones) ⌝ }
-    ensures { λ r. ⌜ now (out .exit) ≡ sets (now (out .entry)) from (lastDigits (to - from) n) ⌝ }
+    ensures { λ r. ⌜ now (out .exit) ≡ sets (now (out .entry)) from (inDigits (to - from) n) ⌝ }
 {
     let mut rest = n;
     let mut k = to;

@@ -2,14 +2,14 @@
 use mathlib.Core.Path.{_≡_, refl, ap}
 use mathlib.Core.Bool.{true, false, _&&_}
 use mathlib.Core.List.{List, [], _∷_, _++_}
-use Prim.Native.Nat.{ℕ, zero, suc, _+_, _*_, _/_, _%_, _<_}
+use Prim.Native.Nat.{ℕ, zero, suc, _+_, _*_, _/_, _<_}
 use native.Mathlib.Omega.{arith}
 use lib.Dec.{ltb}
 use lib.ListN.{length}
 use borrow.Author.Tests.{ltb-true}
 use Rattle.octets.specs.Bytes.{Bytes}
-use Rattle.base64url.specs.Letters.{valueOf}
-use Rattle.base64url.specs.Scan.{groupOf}
+use Rattle.base64url.specs.Letters.{valueOf, isLetter}
+use Rattle.base64url.specs.Scan.{fourLetters, asGroup, groupOf}
 use Rattle.base64url.specs.Condition.{threeBytes, bytesOf, valuesOf}
 use Rattle.base64url.proofs.Run.{and-true}
 
@@ -86,22 +86,31 @@ cleared n (a ∷ b ∷ []) v l h k = two-lists (omega arith) (two-lists (omega a
 cleared n (a ∷ []) v l h k = absurd (omega arith)
 cleared n [] v l h k = absurd (omega arith)
 
--- four values, all below 64 or not
-pub all-small : (a b c d : ℕ) → ltb a 64 && ltb b 64 && ltb c 64 && ltb d 64 ≡ true → (a < 64) × (b < 64) × (c < 64) × (d < 64)
-all-small a b c d e =
-    let x = and-true (ltb a 64 && ltb b 64 && ltb c 64) (ltb d 64) e in
-    let y = and-true (ltb a 64 && ltb b 64) (ltb c 64) (x .0) in
-    let z = and-true (ltb a 64) (ltb b 64) (y .0) in
-    (ltb-true a 64 (z .0), ltb-true b 64 (z .1), ltb-true c 64 (y .1), ltb-true d 64 (x .1))
+-- four letters, one by one
+pub all-letters : (p q r s : ℕ) → fourLetters p q r s ≡ true →
+    (isLetter p ≡ true) × (isLetter q ≡ true) × (isLetter r ≡ true) × (isLetter s ≡ true)
+all-letters p q r s e =
+    let x = and-true (isLetter p && isLetter q && isLetter r) (isLetter s) e in
+    let y = and-true (isLetter p && isLetter q) (isLetter r) (x .0) in
+    let z = and-true (isLetter p) (isLetter q) (y .0) in
+    (z .0, z .1, y .1, x .1)
 
--- the group of four characters with these values
+-- four characters, by their values
 module _ (p q r s a b c d : ℕ) (e : a ≡ valueOf p) (f : b ≡ valueOf q) (g : c ≡ valueOf r) (h : d ≡ valueOf s) where
-  pub group-yes : ltb a 64 && ltb b 64 && ltb c 64 && ltb d 64 ≡ true →
-      record { letters = true; first = a * 4 + b / 16; second = b % 16 * 16 + c / 4; third = c % 4 * 64 + d } ≡ groupOf p q r s
-  unfolding groupOf
-  group-yes t = rw (← e, ← f, ← g, ← h, t)
+  pub four-tests : ltb a 64 && ltb b 64 && ltb c 64 && ltb d 64 ≡ fourLetters p q r s
+  four-tests = rw (e, f, g, h)
 
-  pub group-no : ltb a 64 && ltb b 64 && ltb c 64 && ltb d 64 ≡ false →
-      record { letters = false; first = 0; second = 0; third = 0 } ≡ groupOf p q r s
-  unfolding groupOf
-  group-no t = rw (← e, ← f, ← g, ← h, t)
+  module _ (t : fourLetters p q r s ≡ true) where
+    pub all-small : (a < 64) × (b < 64) × (c < 64) × (d < 64)
+    all-small =
+        let l = all-letters p q r s t in
+        rw (e, f, g, h)
+        (ltb-true (valueOf p) 64 (l .0), ltb-true (valueOf q) 64 (l .1), ltb-true (valueOf r) 64 (l .2), ltb-true (valueOf s) 64 (l .3))
+
+    pub group-yes : asGroup (threeBytes a b c d) ≡ groupOf p q r s
+    unfolding groupOf
+    group-yes = rw (e, f, g, h, t)
+
+pub group-no : (p q r s : ℕ) → fourLetters p q r s ≡ false → record { letters = false; first = 0; second = 0; third = 0 } ≡ groupOf p q r s
+unfolding groupOf
+group-no p q r s t = rw t

@@ -3,6 +3,7 @@ pub mod Run
 pub mod Groups
 pub mod Stored
 pub mod Turns
+pub mod Count
 pub mod Read
 pub mod Write
 pub mod Theorems

@@ -1,5 +1,5 @@
 -- What the readers answer, from what they found.
-use mathlib.Core.Path.{_≡_, sym, ap, _∙_}
+use mathlib.Core.Path.{_≡_, refl, sym, ap, _∙_}
 use mathlib.Core.Bool.{true, false, cond}
 use mathlib.Core.List.{List, [], _++_, map}
 use mathlib.Core.Logic.{⊎-elim}
@@ -54,16 +54,16 @@ module _ (s x : List ℕ) (k : ℕ) (g : Group) (long : length s ≡ 43) (room :
   group-missing a t = sym (letters-turn s x [] long room k (allLetters s) h a) ∙ rw (missing _ _ _ _ g e t)
 
   pub group-letters : allLetters (drop (k * 4) s) ≡ allLetters s → g .letters ≡ true → allLetters (drop ((k + 1) * 4) s) ≡ allLetters s
-  group-letters a t = let m = made _ _ _ _ g e t in rw (m .all) at (letters-turn s x [] long room k (allLetters s) h a)
+  group-letters a t = rw (made _ _ _ _ g e t .0) at (letters-turn s x [] long room k (allLetters s) h a)
 
   pub group-taken : (whole : List ℕ) → take (k * 3) x ++ bytesOf (map valueOf (drop (k * 4) s)) ≡ whole → g .letters ≡ true →
       take ((k + 1) * 3) (set (set (set x (k * 3) (g .first)) (k * 3 + 1) (g .second)) (k * 3 + 2) (g .third))
       ++ bytesOf (map valueOf (drop ((k + 1) * 4) s)) ≡ whole
   group-taken whole a t =
-      let m = made _ _ _ _ g e t in
-      ap (λ (z : List ℕ). take ((k + 1) * 3) z ++ bytesOf (map valueOf (drop ((k + 1) * 4) s)))
-      (three-stores x (k * 3) (m .one) (m .two) (m .three))
-      ∙ read-turn s x whole long room k h a
+      let m = made _ _ _ _ g e t .1 in
+      rw m
+      (ap (λ (z : List ℕ). take ((k + 1) * 3) z ++ bytesOf (map valueOf (drop ((k + 1) * 4) s))) (three-stores x (k * 3) refl refl refl)
+      ∙ read-turn s x whole long room k h a)
 
 -- the last three letters, as a group with an A, of value 0
 module _ (s x : List ℕ) (g : Group) (long : length s ≡ 43) (room : length x ≡ 32)
@@ -74,11 +74,11 @@ module _ (s x : List ℕ) (g : Group) (long : length s ≡ 43) (room : length x 
 
   pub last-letters : allLetters (drop 40 s) ≡ allLetters s → g .letters ≡ true → allLetters s ≡ true
   unfolding valueOf placeFrom alphabet
-  last-letters a t = sym (letters-end s x [] long room (allLetters s) a) ∙ made _ _ _ _ g e t .all
+  last-letters a t = sym (letters-end s x [] long room (allLetters s) a) ∙ made _ _ _ _ g e t .0
 
   pub last-taken : (whole : List ℕ) → take 30 x ++ bytesOf (map valueOf (drop 40 s)) ≡ whole → g .letters ≡ true →
       set (set x 30 (g .first)) 31 (g .second) ≡ whole
-  last-taken whole a t = let m = made _ _ _ _ g e t in read-end s x whole long room (g .first) (g .second) (m .one) (m .two) a
+  last-taken whole a t = let m = made _ _ _ _ g e t .1 in rw m (read-end s x whole long room _ _ refl refl a)
 
 -- a packet with n letters first
 module _ (s : List ℕ) (n : ℕ) (f : (n ≡ lettersFirst 32768 s) × Bytes s) where

@@ -8,9 +8,9 @@ use Prim.Native.Nat.{ℕ, zero, suc, _+_, _-_, _≤_, _<_}
 use native.Mathlib.Omega.{arith}
 use native.Mathlib.Nat.{add-zero}
 use lib.Dec.{leb, ltb, eqb}
-use lib.ListN.{length, getD, drop, drop-of-length-le}
+use lib.ListN.{length, getD, drop}
 use lib.Seq.{drop-cons, drop-length}
-use borrow.Author.Tests.{leb-true, ltb-true, ltb-false, eqb-true, eqb-false, ne-eqb, lt-ltb, le-ltb}
+use borrow.Author.Tests.{leb-true, ltb-true, ltb-false, eqb-true, eqb-false, ne-eqb, lt-ltb}
 use native.Mathlib.Numerals.{add-one}
 use Rattle.octets.specs.Bytes.{Bytes}
 use Rattle.octets.proofs.Lists.{byte-at}
@@ -298,42 +298,6 @@ module _ (s : List ℕ) (b : Bytes s) (n : ℕ) (k : n ≤ length s) (o : n < 32
       go true e false f = subst Rest (sym (ap (pastPad s) (past-yes s n e) ∙ past-no s (n + 1) f)) (one-end (a-pad s n e) f)
       go true e true f = subst Rest (sym (ap (pastPad s) (past-yes s n e) ∙ past-yes s (n + 1) f))
           (two-end (a-pad s n e) (a-pad s (n + 1) f))
-
--- counting letters: what the loop steps by, with i letters passed
-module _ (most : ℕ) (s : List ℕ) (i whole : ℕ) (e : i + lettersFirst (most - i) (drop i s) ≡ whole) where
-  module _ (h : i < length s) (k : i < most) where
-    cut : lettersFirst (most - i) (drop i s) ≡ cond (isLetter (getD s i 0)) (suc (lettersFirst (most - (i + 1)) (drop (i + 1) s))) 0
-    unfolding lettersFirst
-    cut =
-        let z : most - i ≡ suc (most - (i + 1)) = omega arith in
-        ap (λ (j : ℕ). lettersFirst j (drop i s)) z ∙ ap (lettersFirst (suc (most - (i + 1)))) (drop-cons s i 0 h)
-        ∙ ap (λ (j : ℕ). cond (isLetter (getD s i 0)) (suc (lettersFirst (most - (i + 1)) (drop j s))) 0) (sym (add-one i))
-
-    pub count-goes : valueOf (getD s i 0) < 64 → i + 1 + lettersFirst (most - (i + 1)) (drop (i + 1) s) ≡ whole
-    count-goes v = let f = rw (lt-ltb (valueOf (getD s i 0)) 64 v) at cut in omega (arith, e, f)
-
-    pub count-stops : 64 ≤ valueOf (getD s i 0) → i ≡ whole
-    count-stops v = let f = rw (le-ltb (valueOf (getD s i 0)) 64 v) at cut in omega (arith, e, f)
-
-  pub count-ends : (length s ≤ i) ⊎ (most ≤ i) → i ≡ whole
-  unfolding lettersFirst
-  count-ends w = ⊎-elim short full w
-    where
-      none-left : (n : ℕ) → lettersFirst n [] ≡ 0
-      none-left zero = refl
-      none-left (suc n) = refl
-
-      short : length s ≤ i → i ≡ whole
-      short h = omega (arith, e, ap (lettersFirst (most - i)) (drop-of-length-le s h) ∙ none-left (most - i))
-
-      full : most ≤ i → i ≡ whole
-      full h = let z : most - i ≡ 0 = omega arith in omega (arith, e, ap (λ (j : ℕ). lettersFirst j (drop i s)) z)
-
-pub count-starts : (most : ℕ) (s : List ℕ) → 0 + lettersFirst (most - 0) s ≡ lettersFirst most s
-count-starts most s =
-    let e : most - 0 ≡ most = omega arith in
-    let f : 0 + lettersFirst (most - 0) s ≡ lettersFirst (most - 0) s = omega arith in
-    f ∙ ap (λ (n : ℕ). lettersFirst n s) e
 
 -- the verdict on a packet: no letter at all, or letters and then what `ends` says
 abbrev Ended : List ℕ → ℕ → Type 0

@@ -8,7 +8,7 @@ use lib.ListN.{length, getD, set, take, drop, take-append-drop, drop-of-length-l
 use lib.Seq.{sets, length-sets, drop-cons, take-all}
 use Rattle.base64url.specs.Letters.{letterOf, valueOf, isLetter}
 use Rattle.base64url.specs.Condition.{threeBytes, bytesOf, fourValues, lastValues, valuesOf, conditionText}
-use Rattle.base64url.specs.Scan.{groupOf}
+use Rattle.base64url.specs.Scan.{fourLetters, asGroup, groupOf}
 use Rattle.base64url.specs.declared.Group.{Group}
 use Rattle.base64url.proofs.Run.{allLetters, true-false}
 use Rattle.base64url.proofs.Stored.{front-more, kept}
@@ -26,7 +26,7 @@ module _ (l : List ℕ) (i : ℕ) where
       let f : i + 3 ≡ suc (i + 2) = omega arith in
       rw f (next-two (omega arith) ∙ ap (λ (z : List ℕ). getD l i 0 ∷ getD l (i + 1) 0 ∷ z) (drop-cons l (i + 2) 0 (omega arith)))
 
-  next-four : i + 4 ≤ length l → drop i l ≡ getD l i 0 ∷ getD l (i + 1) 0 ∷ getD l (i + 2) 0 ∷ getD l (i + 3) 0 ∷ drop (i + 4) l
+  pub next-four : i + 4 ≤ length l → drop i l ≡ getD l i 0 ∷ getD l (i + 1) 0 ∷ getD l (i + 2) 0 ∷ getD l (i + 3) 0 ∷ drop (i + 4) l
   next-four h =
       let f : i + 4 ≡ suc (i + 3) = omega arith in
       rw f
@@ -92,7 +92,7 @@ module _ (s x whole : List ℕ) (long : length s ≡ 43) (room : length x ≡ 32
       (ap (λ (z : List ℕ). take (k * 3) x ++ bytesOf (map valueOf z)) (sym (next-four s (k * 4) (omega arith))) ∙ e))
 
   pub letters-turn : (k : ℕ) (v : Bool) → k < 10 → allLetters (drop (k * 4) s) ≡ v →
-      isLetter (getD s (k * 4) 0) && isLetter (getD s (k * 4 + 1) 0) && isLetter (getD s (k * 4 + 2) 0) && isLetter (getD s (k * 4 + 3) 0)
+      fourLetters (getD s (k * 4) 0) (getD s (k * 4 + 1) 0) (getD s (k * 4 + 2) 0) (getD s (k * 4 + 3) 0)
       && allLetters (drop ((k + 1) * 4) s) ≡ v
   unfolding allLetters
   letters-turn k v h e =
@@ -127,32 +127,22 @@ module _ (s x whole : List ℕ) (long : length s ≡ 43) (room : length x ≡ 32
       sym (take-all 32 (sets x 30 vs) (rw (length-sets x 30 vs) (omega arith))) ∙ sym (append-nil (take 32 (sets x 30 vs))) ∙ h
 
 -- what a group says of its four characters
-pub record Made (p q r s : ℕ) (g : Group) : Type 0 where
-  pub all : isLetter p && isLetter q && isLetter r && isLetter s ≡ true
-  pub one : g .first ≡ valueOf p * 4 + valueOf q / 16
-  pub two : g .second ≡ valueOf q % 16 * 16 + valueOf r / 4
-  pub three : g .third ≡ valueOf r % 4 * 64 + valueOf s
-
 module _ (p q r s : ℕ) (g : Group) (e : g ≡ groupOf p q r s) where
-  pub made : g .letters ≡ true → Made p q r s g
+  abbrev Made : Type 0
+  Made = (fourLetters p q r s ≡ true) × (g ≡ asGroup (threeBytes (valueOf p) (valueOf q) (valueOf r) (valueOf s)))
+
+  pub made : g .letters ≡ true → Made
   unfolding groupOf
-  made t = go (isLetter p && isLetter q && isLetter r && isLetter s) refl
+  made t = go (fourLetters p q r s) refl
     where
-      go : (x : Bool) → isLetter p && isLetter q && isLetter r && isLetter s ≡ x → Made p q r s g
-      go true f =
-          let h = rw f at e in
-          record {
-            all = f;
-            one = ap (λ (z : Group). z .first) h;
-            two = ap (λ (z : Group). z .second) h;
-            three = ap (λ (z : Group). z .third) h;
-          }
+      go : (x : Bool) → fourLetters p q r s ≡ x → Made
+      go true f = (f, rw f at e)
       go false f = let h = rw f at e in true-false (sym (ap (λ (z : Group). z .letters) h) ∙ t)
 
-  pub missing : g .letters ≡ false → isLetter p && isLetter q && isLetter r && isLetter s ≡ false
+  pub missing : g .letters ≡ false → fourLetters p q r s ≡ false
   unfolding groupOf
-  missing t = go (isLetter p && isLetter q && isLetter r && isLetter s) refl
+  missing t = go (fourLetters p q r s) refl
     where
-      go : (x : Bool) → isLetter p && isLetter q && isLetter r && isLetter s ≡ x → x ≡ false
+      go : (x : Bool) → fourLetters p q r s ≡ x → x ≡ false
       go true f = let h = rw f at e in true-false (sym t ∙ ap (λ (z : Group). z .letters) h)
       go false f = refl

@@ -3,7 +3,7 @@ use form::Verdict;
 use form::Written;
 ghost use mathlib.Core.Path.{_≡_};
 ghost use mathlib.Core.List.{_++_, map};
-ghost use Prim.Native.Nat.{_+_, _*_, _/_, _%_, _≤_, _<_};
+ghost use Prim.Native.Nat.{_+_, _-_, _*_, _/_, _%_, _≤_, _<_};
 ghost use lib.ListN.{length, getD, drop, take};
 ghost use lib.Seq.{sets};
 ghost use Rattle.octets.specs.Bytes.{Bytes};
@@ -13,7 +13,7 @@ ghost use Rattle.form.specs.Writing.{bufferAfter};
 ghost use Rattle.base64url.specs.Letters.{alphabet, letterOf, valueOf, readingTable};
 ghost use Rattle.form.specs.declared.Verdict.the-variants.{Fits};
 ghost use Rattle.base64url.specs.Condition.{fourValues, lastValues, readCondition, conditionText, writeCondition};
-ghost use Rattle.base64url.specs.Scan.{groupOf, lettersFirst, pastPad};
+ghost use Rattle.base64url.specs.Scan.{fourLetters, groupOf, lettersFirst, pastPad};
 
 // The reading table: the value of each byte that is a letter, and for every other the refuse mark, 255.
 const VALUE: [u8; 256] = *b"\
@@ -51,6 +51,33 @@ fn value_of(value: &[u8; 256], c: u8) -> u8
     value[c as usize]
 }
 
+// Whether four characters are all letters, by one test.
+fn four_letters(value: &[u8; 256], p: u8, q: u8, r: u8, s: u8) -> bool
+    requires { ⌜ now value ≡ readingTable ⌝ }
+    ensures { λ b. ⌜ b ≡ fourLetters p q r s ⌝ }
+{
+    let a = value_of(value, p);
+    let b = value_of(value, q);
+    let c = value_of(value, r);
+    let d = value_of(value, s);
+    (a < 64) & (b < 64) & (c < 64) & (d < 64)
+}
+
+// Letters that the text begins with, counted to end four a turn for speed; the caller counts the last few.
+fn fours_first(value: &[u8; 256], s: &[u8], end: usize) -> usize
+    requires { ⌜ (now value ≡ readingTable) × (end ≤ length (now s)) ⌝ }
+    ensures { λ r. ⌜ (r ≤ end) × (r + lettersFirst (end - r) (drop r (now (s .entry))) ≡ lettersFirst end (now (s .entry))) ⌝ }
+{
+    let mut i: usize = 0;
+    while 4 <= end - i {
+        if !four_letters(value, s[i], s[i + 1], s[i + 2], s[i + 3]) {
+            return i;
+        }
+        i += 4;
+    }
+    i
+}
+
 // How many letters the text begins with, counted to most.
 fn letters_first(value: &[u8; 256], s: &[u8], most: usize) -> usize
     requires { ⌜ now value ≡ readingTable ⌝ }
@@ -60,7 +87,7 @@ fn letters_first(value: &[u8; 256], s: &[u8], most: usize) -> usize
     if most < end {
         end = most;
     }
-    let mut i: usize = 0;
+    let mut i = fours_first(value, s, end);
     while i < end {
         if 64 <= value_of(value, s[i]) {
             return i;
@@ -74,27 +101,26 @@ fn group_of(value: &[u8; 256], p: u8, q: u8, r: u8, s: u8) -> Group
     requires { ⌜ now value ≡ readingTable ⌝ }
     ensures { λ g. ⌜ g ≡ groupOf p q r s ⌝ }
 {
-    let a = value_of(value, p);
-    let b = value_of(value, q);
-    let c = value_of(value, r);
-    let d = value_of(value, s);
-    if (a < 64) & (b < 64) & (c < 64) & (d < 64) {
-        let first = a * 4 + b / 16;
-        let second = b % 16 * 16 + c / 4;
-        let third = c % 4 * 64 + d;
-        Group {
-            letters: true,
-            first,
-            second,
-            third,
-        }
-    } else {
-        Group {
+    if !four_letters(value, p, q, r, s) {
+        return Group {
             letters: false,
             first: 0,
             second: 0,
             third: 0,
-        }
+        };
+    }
+    let a = value_of(value, p);
+    let b = value_of(value, q);
+    let c = value_of(value, r);
+    let d = value_of(value, s);
+    let first = a * 4 + b / 16;
+    let second = b % 16 * 16 + c / 4;
+    let third = c % 4 * 64 + d;
+    Group {
+        letters: true,
+        first,
+        second,
+        third,
     }
 }
 

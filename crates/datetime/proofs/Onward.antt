@@ -14,6 +14,8 @@ use borrow.Author.Tests.{eq-eqb, ne-eqb, le-leb}
 use Rattle.octets.specs.Bytes.{Bytes}
 use Rattle.octets.proofs.Computed.{both, both-left, both-right, implies, implied, below, below-at}
 use Rattle.octets.proofs.Lists.{byte-at}
+use Rattle.octets.proofs.Parts.{bytes-drop}
+use Rattle.octets.proofs.Tests.{is-false}
 use Rattle.form.specs.Regex.{Re, alive, nullable, deriv, judgeFrom}
 use Rattle.form.specs.declared.Verdict.{Verdict}
 use Rattle.form.specs.declared.Verdict.the-variants.{Stops}
@@ -30,15 +32,6 @@ stepsTo d good q = cond good (both (alive d) (same d q)) (not (alive d))
 abbrev pub goesBy : Re → (ℕ → Bool) → (ℕ → Re) → Bool
 goesBy r rule next =
     both (not (nullable r)) (both (not (rule 0)) (below 256 (λ c. stepsTo (deriv c r) (rule c) (next c))))
-
-bytes-drop : (i : ℕ) (s : List ℕ) → Bytes s → Bytes (drop i s)
-bytes-drop zero s b = b
-bytes-drop (suc i) [] b = tt
-bytes-drop (suc i) (c ∷ cs) b = bytes-drop i cs (b .1)
-
-is-false : (b : Bool) → T (not b) → b ≡ false
-is-false false t = refl
-is-false true t = absurd t
 
 module _ (r : Re) (rule : ℕ → Bool) (next : ℕ → Re) (ok : T (goesBy r rule next)) where
   abbrev each : Bool

@@ -13,13 +13,14 @@ use lib.ListN.{length, getD, drop}
 use lib.Seq.{drop-cons, drop-length}
 use lib.Dec.{T, eqb}
 use Rattle.octets.specs.Bytes.{Bytes}
+use Rattle.octets.specs.Decimal.{inDigits}
 use Rattle.octets.proofs.Lists.{bytes-append}
 use Rattle.form.specs.Regex.{judge}
 use Rattle.form.specs.Listings.{dateTimeForm}
 use Rattle.form.specs.declared.Verdict.the-variants.{Fits}
 use Rattle.form.proofs.Steps.{is-true}
 use Rattle.datetime.specs.Calendar.{leap, monthDays}
-use Rattle.datetime.specs.Instant.{digitOf, lastDigit, decimal, Civil, spelled, civilOn, utcText}
+use Rattle.datetime.specs.Instant.{digitOf, lastDigit, Civil, spelled, civilOn, utcText}
 use Rattle.datetime.specs.Plain.{pair, pairAt, leapIn, monthLength}
 use Rattle.datetime.specs.Reach.{within, pairEnd, markedEnd, past, daysOf, dateEnd, clockEnd, offsetEnd, zoneVerdict, verdict}
 use Rattle.datetime.proofs.Days.{month-length}
@@ -50,7 +51,7 @@ leap-halves c x h =
     by-fourth false b = refl
 
 -- four digits are two and two
-pub year-halves : (c x : ℕ) → c < 100 → x < 100 → decimal 4 (c * 100 + x) ≡ decimal 2 c ++ decimal 2 x
+pub year-halves : (c x : ℕ) → c < 100 → x < 100 → inDigits 4 (c * 100 + x) ≡ inDigits 2 c ++ inDigits 2 x
 year-halves c x h k =
     let e₁ : (c * 100 + x) / 10 / 10 / 10 % 10 ≡ c / 10 % 10 = omega arith in
     let e₂ : (c * 100 + x) / 10 / 10 % 10 ≡ c % 10 = omega arith in
@@ -60,7 +61,7 @@ year-halves c x h k =
 
 -- the text of a date and a clock time, by the halves of the year
 abbrev pub halved : ℕ → ℕ → ℕ → ℕ → ℕ → List ℕ
-halved c x m d t = (decimal 2 c ++ decimal 2 x) ++ drop 4 (utcText (civilOn 0 m d t))
+halved c x m d t = (inDigits 2 c ++ inDigits 2 x) ++ drop 4 (utcText (civilOn 0 m d t))
 
 pub utc-halves : (c x m d t : ℕ) → c < 100 → x < 100 → halved c x m d t ≡ utcText (civilOn (c * 100 + x) m d t)
 utc-halves c x m d t h k = ap (λ (y : List ℕ). y ++ drop 4 (utcText (civilOn 0 m d t))) (sym (year-halves c x h k))
@@ -68,7 +69,7 @@ utc-halves c x m d t h k = ap (λ (y : List ℕ). y ++ drop 4 (utcText (civilOn 
 -- a zone: `Z`, or a sign and hours and minutes
 pub data Zone : List ℕ → Type 0 where
   utc : Zone (code "Z" ∷ [])
-  away : (c h n : ℕ) → T (isSign c) → h < 20 → n < 60 → Zone (c ∷ decimal 2 h ++ code ":" ∷ decimal 2 n)
+  away : (c h n : ℕ) → T (isSign c) → h < 20 → n < 60 → Zone (c ∷ inDigits 2 h ++ code ":" ∷ inDigits 2 n)
 
 -- a date and a clock time as they may stand in a text
 pub record Valid (c : Civil) : Type 0 where
@@ -84,7 +85,7 @@ pub record Valid (c : Civil) : Type 0 where
   pub milli-small : c .milli < 1000
 
 -- three digits are two and one
-pub milli-halves : (a b : ℕ) → b < 10 → decimal 3 (a * 10 + b) ≡ decimal 2 a ++ decimal 1 b
+pub milli-halves : (a b : ℕ) → b < 10 → inDigits 3 (a * 10 + b) ≡ inDigits 2 a ++ inDigits 1 b
 milli-halves a b h =
     let e₁ : (a * 10 + b) / 10 / 10 % 10 ≡ a / 10 % 10 = omega arith in
     let e₂ : (a * 10 + b) / 10 % 10 ≡ a % 10 = omega arith in
@@ -100,9 +101,9 @@ pub record OfForm (s : List ℕ) : Type 0 where
   pub whole : s ≡ spelled civil ++ zone
 
 -- two bytes that make a number below 100 are its digits
-pair-shown : (a b : ℕ) → pair a b < 100 → a ∷ b ∷ [] ≡ decimal 2 (pair a b)
+pair-shown : (a b : ℕ) → pair a b < 100 → a ∷ b ∷ [] ≡ inDigits 2 (pair a b)
 pair-shown a b =
-    by-digits (λ v. v < 100 → a ∷ b ∷ [] ≡ decimal 2 v) a b
+    by-digits (λ v. v < 100 → a ∷ b ∷ [] ≡ inDigits 2 v) a b
     (λ d h. ap₂ (λ (x y : ℕ). x ∷ y ∷ []) (tens d) (ones d)) (λ h. absurd (omega arith))
   where
     tens : (48 ≤ a) × (a ≤ 57) × (48 ≤ b) × (b ≤ 57) → a ≡ lastDigit ((digitOf a * 10 + digitOf b) / 10)
@@ -167,10 +168,10 @@ module _ (s : List ℕ) where
           milli-small = omega (arith, b .hundredth .2, b .thousandth .1);
         }
 
-    digits : (i : ℕ) → pairAt s i < 100 → getD s i 0 ∷ getD s (i + 1) 0 ∷ [] ≡ decimal 2 (pairAt s i)
+    digits : (i : ℕ) → pairAt s i < 100 → getD s i 0 ∷ getD s (i + 1) 0 ∷ [] ≡ inDigits 2 (pairAt s i)
     digits i h = pair-shown (getD s i 0) (getD s (i + 1) 0) h
 
-    last-shown : getD s 22 0 ∷ [] ≡ decimal 1 (digitOf (getD s 22 0))
+    last-shown : getD s 22 0 ∷ [] ≡ inDigits 1 (digitOf (getD s 22 0))
     last-shown =
         let e : getD s 22 0 ≡ lastDigit (digitOf (getD s 22 0)) = omega (arith, b .thousandth) in
         ap (λ (c : ℕ). c ∷ []) e
@@ -192,14 +193,14 @@ module _ (s : List ℕ) where
         let e₁₃ = b .minute .0 in
         let e₁₆ = b .second .0 in
         let e₁₉ = b .hundredth .0 in
-        let y : decimal 2 (pairAt s 0) ++ decimal 2 (pairAt s 2) ≡ decimal 4 year = sym
+        let y : inDigits 2 (pairAt s 0) ++ inDigits 2 (pairAt s 2) ≡ inDigits 4 year = sym
         (year-halves (pairAt s 0) (pairAt s 2) (omega (arith, a .century .1)) (omega (arith, a .year .1))) in
-        let w : decimal 2 (pairAt s 20) ++ decimal 1 (digitOf (getD s 22 0)) ≡ decimal 3 milli = sym
+        let w : inDigits 2 (pairAt s 20) ++ inDigits 1 (digitOf (getD s 22 0)) ≡ inDigits 3 milli = sym
         (milli-halves (pairAt s 20) (digitOf (getD s 22 0)) (omega (arith, b .thousandth .1))) in
         (λ i. c i ++ x i ++ e₄ i ∷ month i ++ e₇ i ∷ day i ++ e₁₀ i ∷ hour i ++ e₁₃ i ∷ minute i ++ e₁₆ i ∷ second i ++ e₁₉ i ∷ hundredth
         i ++ last-shown i ++ zone)
-        ∙ (λ i. y i ++ code "-" ∷ decimal 2 (pairAt s 5) ++ code "-" ∷ decimal 2 (pairAt s 8) ++ code "T" ∷ decimal 2 (pairAt s 11) ++
-        code ":" ∷ decimal 2 (pairAt s 14) ++ code ":" ∷ decimal 2 (pairAt s 17) ++ code "." ∷ w i ++ zone)
+        ∙ (λ i. y i ++ code "-" ∷ inDigits 2 (pairAt s 5) ++ code "-" ∷ inDigits 2 (pairAt s 8) ++ code "T" ∷ inDigits 2 (pairAt s 11) ++
+        code ":" ∷ inDigits 2 (pairAt s 14) ++ code ":" ∷ inDigits 2 (pairAt s 17) ++ code "." ∷ w i ++ zone)
 
     -- to the end of a text of n bytes
     to-end : (i n : ℕ) → length s ≡ i + n → drop i s ≡ from s i n []
@@ -325,7 +326,7 @@ module _ (c : Civil) (v : Valid c) where
   spelled-zone zone (away k h n g hh hn) = elim (ℕ-discrete k (code "Z")) [
     | yes z ↦ absurd (subst (λ (x : ℕ). T (isSign x)) z g)
     | no z ↦
-        let s = spelled c ++ k ∷ decimal 2 h ++ code ":" ∷ decimal 2 n in
+        let s = spelled c ++ k ∷ inDigits 2 h ++ code ":" ∷ inDigits 2 n in
         let o : offsetEnd s ≡ 29 =
         on-past (on-pair s 24 0 19 h (omega arith) (omega arith) (pair-back h (omega arith)))
         (on-marked s 26 0 59 n (omega arith) (omega arith) (code ":") refl (pair-back n (omega arith))) in

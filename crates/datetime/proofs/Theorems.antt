@@ -14,6 +14,7 @@ use lib.Signed.{leZ}
 use borrow.Author.Tests.{ltb-true, eqb-false}
 use Rattle.octets.specs.Ascii.{ascii}
 use Rattle.octets.specs.Bytes.{Bytes}
+use Rattle.octets.specs.Decimal.{inDigits}
 use Rattle.octets.proofs.Lists.{bytes-append}
 use Rattle.form.specs.Regex.{judge}
 use Rattle.form.specs.Listings.{dateTimeForm}
@@ -21,7 +22,7 @@ use Rattle.form.specs.declared.Verdict.{Verdict}
 use Rattle.form.specs.declared.Verdict.the-variants.{Fits, Stops}
 use Rattle.form.specs.declared.Written.the-variants.{Length, NoRoom, OutsideYears}
 use Rattle.datetime.specs.Calendar.{leap, monthDays}
-use Rattle.datetime.specs.Instant.{number, decimal, Civil, civilOf, timeOf, spelled, epoch, offsetAfter, instantOf, valueOf, readDateTime, dateTimeText, inYears, writeDateTime}
+use Rattle.datetime.specs.Instant.{number, Civil, civilOf, timeOf, spelled, epoch, offsetAfter, instantOf, valueOf, readDateTime, dateTimeText, inYears, writeDateTime}
 use Rattle.datetime.specs.declared.InstantRead.the-variants.{Value}
 use Rattle.datetime.proofs.Signed.{epoch-is, minus, outside}
 use Rattle.datetime.proofs.Texts.{Valid, Zone, utc, away, in-form, OfForm, of-form}
@@ -135,7 +136,7 @@ module _ (c : Civil) (v : Valid c) where
     offset = h * 3600000 + n * 60000
 
     abbrev signed : ℕ → List ℕ
-    signed sign = sign ∷ decimal 2 h ++ code ":" ∷ decimal 2 n
+    signed sign = sign ∷ inDigits 2 h ++ code ":" ∷ inDigits 2 n
 
     shown : (sign : ℕ) → offset ≡ number (spelled c ++ signed sign) 24 2 * 3600000 + number (spelled c ++ signed sign) 27 2 * 60000
     shown sign = λ i. sym (back-two h (omega arith)) i * 3600000 + sym (back-two n (omega arith)) i * 60000
@@ -160,9 +161,9 @@ pub record Zones (p : List ℕ) : Type 0 where
   pub utc-value : readDateTime (p ++ code "Z" ∷ []) ≡ Value instant
   pub plus-none : readDateTime (p ++ ascii "+00:00") ≡ Value instant
   pub minus-none : readDateTime (p ++ ascii "-00:00") ≡ Value instant
-  pub plus : (h n : ℕ) → h < 20 → n < 60 → readDateTime (p ++ code "+" ∷ decimal 2 h ++ code ":" ∷ decimal 2 n) ≡ Value
+  pub plus : (h n : ℕ) → h < 20 → n < 60 → readDateTime (p ++ code "+" ∷ inDigits 2 h ++ code ":" ∷ inDigits 2 n) ≡ Value
       (instant -ℤ pos (h * 3600000 + n * 60000))
-  pub minus-value : (h n : ℕ) → h < 20 → n < 60 → readDateTime (p ++ code "-" ∷ decimal 2 h ++ code ":" ∷ decimal 2 n) ≡ Value
+  pub minus-value : (h n : ℕ) → h < 20 → n < 60 → readDateTime (p ++ code "-" ∷ inDigits 2 h ++ code ":" ∷ inDigits 2 n) ≡ Value
       (instant +ℤ pos (h * 3600000 + n * 60000))
 
 pub zones : (p : List ℕ) → Bytes p → length p ≡ 23 → judge dateTimeForm (p ++ code "Z" ∷ []) ≡ Fits → Zones p
@@ -186,7 +187,7 @@ zones p b l j =
 
 -- `leap-days`: of the years 1000 to 9999 exactly the leap years have a 29th of February
 abbrev feb29 : ℕ → List ℕ
-feb29 y = decimal 4 y ++ ascii "-02-29T00:00:00.000Z"
+feb29 y = inDigits 4 y ++ ascii "-02-29T00:00:00.000Z"
 
 abbrev leapDay : ℕ → Civil
 leapDay y = record { year = y; month = 2; day = 29; hour = 0; minute = 0; second = 0; milli = 0 }

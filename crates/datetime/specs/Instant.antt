@@ -7,6 +7,7 @@ use lib.Dec.{eqb}
 use lib.ListN.{getD}
 use lib.IntN.{ℤ, pos, negℤ, _+ℤ_, subℕ, natAbs}
 use lib.Signed.{leZ}
+use Rattle.octets.specs.Decimal.{inDigits}
 use Rattle.form.specs.Regex.{judge}
 use Rattle.form.specs.Listings.{dateTimeForm}
 use Rattle.form.specs.Writing.{intoRoom}
@@ -77,16 +78,11 @@ valueOf (Stops n) s = Refused n
 unfoldable pub readDateTime : List ℕ → InstantRead
 readDateTime s = valueOf (judge dateTimeForm s) s
 
--- a number in w digits
-abbrev pub decimal : ℕ → ℕ → List ℕ
-decimal zero x = []
-decimal (suc w) x = decimal w (x / 10) ++ lastDigit x ∷ []
-
 -- `yyyy-MM-ddTHH:mm:ss.SSS`
 abbrev pub spelled : Civil → List ℕ
 spelled c =
-    decimal 4 (c .year) ++ code "-" ∷ decimal 2 (c .month) ++ code "-" ∷ decimal 2 (c .day)
-    ++ code "T" ∷ decimal 2 (c .hour) ++ code ":" ∷ decimal 2 (c .minute) ++ code ":" ∷ decimal 2 (c .second) ++ code "." ∷ decimal 3
+    inDigits 4 (c .year) ++ code "-" ∷ inDigits 2 (c .month) ++ code "-" ∷ inDigits 2 (c .day)
+    ++ code "T" ∷ inDigits 2 (c .hour) ++ code ":" ∷ inDigits 2 (c .minute) ++ code ":" ∷ inDigits 2 (c .second) ++ code "." ∷ inDigits 3
     (c .milli)
 
 -- a date, and the clock time so many milliseconds into the day

@@ -8,6 +8,7 @@ use native.Mathlib.Omega.{arith}
 use lib.Dec.{leb}
 use lib.ListN.{take}
 use borrow.Author.Tests.{leb-true, le-leb}
+use Rattle.octets.proofs.Tests.{and-left, and-right, either}
 use Rattle.form.specs.Regex.{
   Re,
   none,
@@ -46,25 +47,12 @@ tail e = cc
 and-both : {a b : Bool} → a ≡ true → b ≡ true → a && b ≡ true
 and-both e f = rw (e, f)
 
-and-first : (a b : Bool) → a && b ≡ true → a ≡ true
-and-first true b e = refl
-and-first false b e = e
-
-and-second : (a b : Bool) → a && b ≡ true → b ≡ true
-and-second true b e = e
-and-second false true e = refl
-and-second false false e = e
-
 or-first : {a : Bool} (b : Bool) → a ≡ true → a || b ≡ true
 or-first b e = rw e
 
 or-second : (a : Bool) {b : Bool} → b ≡ true → a || b ≡ true
 or-second true e = refl
 or-second false e = e
-
-or-cases : (a b : Bool) → a || b ≡ true → (a ≡ true) ⊎ (b ≡ true)
-or-cases true b e = inl refl
-or-cases false b e = inr e
 
 -- the empty text
 nullable-to : {r : Re} {s : List ℕ} → Matches r s → s ≡ [] → nullable r ≡ true
@@ -85,8 +73,8 @@ nullable-from none e = true-false e
 nullable-from empty e = nothing
 nullable-from (range a b) e = true-false e
 nullable-from (seq p q) e =
-    joined [] [] refl (nullable-from p (and-first (nullable p) (nullable q) e)) (nullable-from q (and-second (nullable p) (nullable q) e))
-nullable-from (alt p q) e = ⊎-elim (λ h. left (nullable-from p h)) (λ h. right (nullable-from q h)) (or-cases (nullable p) (nullable q) e)
+    joined [] [] refl (nullable-from p (and-left (nullable p) (nullable q) e)) (nullable-from q (and-right (nullable p) (nullable q) e))
+nullable-from (alt p q) e = ⊎-elim (λ h. left (nullable-from p h)) (λ h. right (nullable-from q h)) (either (nullable p) (nullable q) e)
 nullable-from (upto n r) e = stop
 
 -- `none` and `empty` left out
@@ -148,11 +136,11 @@ alive-from none e = true-false e
 alive-from empty e = ([], nothing)
 alive-from (range a b) e = (a ∷ [], one {a = a} a (omega arith) (leb-true a b e))
 alive-from (seq p q) e =
-    let x = alive-from p (and-first (alive p) (alive q) e) in
-    let y = alive-from q (and-second (alive p) (alive q) e) in
+    let x = alive-from p (and-left (alive p) (alive q) e) in
+    let y = alive-from q (and-right (alive p) (alive q) e) in
     (x .0 ++ y .0, joined (x .0) (y .0) refl (x .1) (y .1))
 alive-from (alt p q) e =
-    ⊎-elim (λ h. let x = alive-from p h in (x .0, left (x .1))) (λ h. let x = alive-from q h in (x .0, right (x .1))) (or-cases
+    ⊎-elim (λ h. let x = alive-from p h in (x .0, left (x .1))) (λ h. let x = alive-from q h in (x .0, right (x .1))) (either
     (alive p) (alive q) e)
 alive-from (upto n r) e = ([], stop)
 
@@ -193,7 +181,7 @@ deriv-to (again {n = n} {r = r} (x ∷ u) v d m w) c s e =
     seq-to (deriv c r) (upto n r) (joined u v (tail (sym e ∙ d)) (deriv-to m c u (ap (λ (z : ℕ). z ∷ u) (head (sym d ∙ e)))) w)
 
 range-from : (a b c : ℕ) (x : Bool) {s : List ℕ} → leb a c && leb c b ≡ x → Matches (cond x empty none) s → Matches (range a b) (c ∷ s)
-range-from a b c true e nothing = one c (leb-true a c (and-first (leb a c) (leb c b) e)) (leb-true c b (and-second (leb a c) (leb c b) e))
+range-from a b c true e nothing = one c (leb-true a c (and-left (leb a c) (leb c b) e)) (leb-true c b (and-right (leb a c) (leb c b) e))
 range-from a b c false e m = none-none m refl
 
 -- what holds of every text of a derivative

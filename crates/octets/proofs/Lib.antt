@@ -1,7 +1,13 @@
 pub mod Computed
+pub mod Tests
 pub mod Lists
 pub mod Built
 pub mod Equal
 pub mod Stores
+pub mod Zeros
+pub mod Parts
+pub mod Search
+pub mod Walk
 pub mod Numbers
+pub mod Round
 pub mod Integers

@@ -5,3 +5,4 @@ pub mod Decimal
 pub mod Numbers
 pub mod Parts
 pub mod Lists
+pub mod Integers

@@ -6,9 +6,10 @@ use Prim.Native.Nat.{ℕ, zero, suc, _+_, _*_, _%_, _≤_}
 use native.Mathlib.Omega.{arith}
 use lib.ListN.{length, length-append}
 use Rattle.octets.specs.Bytes.{Bytes}
+use Rattle.octets.specs.Numbers.{bigEndian}
 use Rattle.octets.proofs.Lists.{bytes-append}
-use Rattle.sha256.specs.Sha256.{bigEndian, zeroCount, pad, joined, sha256}
-use Rattle.sha256.proofs.BigEndian.{length-bigEndian}
+use Rattle.octets.proofs.Numbers.{length-bigEndian, bytes-bigEndian}
+use Rattle.sha256.specs.Sha256.{zeroCount, pad, joined, sha256}
 use Rattle.sha256.proofs.Padding.{length-pad}
 
 -- with the mark they bring the length to 56 modulo 64 bytes, 448 modulo 512 bits, and no fewer do
@@ -25,11 +26,6 @@ length-joined : (n : ℕ) (s : List ℕ) → length (joined n s) ≡ 4 * n
 unfolding joined
 length-joined zero s = refl
 length-joined (suc n) s = simp (length-append, length-joined n s, length-bigEndian) (omega arith)
-
-bytes-bigEndian : (n x : ℕ) → Bytes (bigEndian n x)
-unfolding bigEndian
-bytes-bigEndian zero x = tt
-bytes-bigEndian (suc n) x = (omega arith, bytes-bigEndian n x)
 
 bytes-joined : (n : ℕ) (s : List ℕ) → Bytes (joined n s)
 unfolding joined

@@ -1,4 +1,3 @@
-pub mod BigEndian
 pub mod Facts
 pub mod Merge
 pub mod Padding

@@ -1,35 +1,21 @@
 -- The end of the padded message, as the code makes it, and how it joins the whole blocks.
-use mathlib.Core.Path.{_≡_, refl, sym, ap, _∙_}
+use mathlib.Core.Path.{_≡_, sym, ap, _∙_}
 use mathlib.Core.List.{List, _∷_, _++_, append-assoc}
-use Prim.Native.Nat.{ℕ, zero, suc, _+_, _-_, _*_, _/_, _%_, _^_, _≤_, _<_}
+use Prim.Native.Nat.{ℕ, suc, _+_, _-_, _*_, _/_, _%_, _^_, _≤_, _<_}
 use native.Mathlib.Numerals.{add-one}
 use native.Mathlib.Omega.{arith}
-use lib.ListN.{length, take, drop, getD, set, replicate, length-append, length-drop, length-replicate}
+use lib.ListN.{length, take, drop, getD, set, length-append, length-drop}
 use lib.Seq.{take-suc, take-all, take-append-add, length-take-le, drop-cons, drop-append-le, getD-drop, set-at, append-snoc}
-use lib.Seq.{paste, take-paste}
-use Rattle.sha256.specs.Sha256.{bigEndian, zeroCount, pad, H0, absorb, joined, sha256}
+use lib.Seq.{sets}
+use Rattle.octets.specs.Numbers.{bigEndian}
+use Rattle.octets.specs.Parts.{zeros}
+use Rattle.octets.proofs.Numbers.{length-bigEndian, bigEndian-low}
+use Rattle.octets.proofs.Parts.{take-stored}
+use Rattle.octets.proofs.Stores.{length-zeros}
+use Rattle.octets.proofs.Zeros.{take-zeros, drop-zeros}
+use Rattle.sha256.specs.Sha256.{zeroCount, pad, H0, absorb, joined, sha256}
 use Rattle.sha256.specs.Parts.{wholes, rest, paddedLength}
-use Rattle.sha256.proofs.BigEndian.{length-bigEndian, bigEndian-low}
 use Rattle.sha256.proofs.Turns.{absorb-add, absorb-front}
-
-unfoldable pub zeros : ℕ → List ℕ
-zeros n = replicate n 0
-
-length-zeros : (n : ℕ) → length (zeros n) ≡ n
-unfolding zeros
-length-zeros n = length-replicate {A = ℕ} n 0
-
-drop-zeros : (i n : ℕ) → drop i (zeros n) ≡ zeros (n - i)
-unfolding zeros
-drop-zeros zero n = let e : n - 0 ≡ n = omega arith in rw e
-drop-zeros (suc i) zero = let e : 0 - suc i ≡ 0 = omega arith in rw e
-drop-zeros (suc i) (suc n) = let e : suc n - suc i ≡ n - i = omega arith in rw e (drop-zeros i n)
-
-take-zeros : (i n : ℕ) → i ≤ n → take i (zeros n) ≡ zeros i
-unfolding zeros
-take-zeros zero n h = refl
-take-zeros (suc i) zero h = absurd (omega arith)
-take-zeros (suc i) (suc n) h = ap (λ (l : List ℕ). 0 ∷ l) (take-zeros i n (omega arith))
 
 -- one byte more of the part of m from a place on is copied into zeros
 pub copy-step : (m o : List ℕ) (from i n : ℕ) → o ≡ take i (drop from m) ++ drop i (zeros n) → from + i < length m → i < n →
@@ -54,29 +40,26 @@ mark-step m o i n e f h =
     rw (← f, e, take-all i (rest m) b, drop-cons (zeros n) i 0 a, drop-zeros (suc i) n, g)
     (set-at (rest m) (getD (zeros n) i 0) (zeros (n - 1 - length (rest m))) 0x80 i l)
 
--- the count is pasted before the end
-pub count-end : (b o : List ℕ) (size n : ℕ) → o ≡ paste b (size - 8) (bigEndian 8 (n % 2 ^ 61 * 8)) 8 → 8 ≤ size → size ≤ length b →
+-- the count is stored before the end
+pub count-end : (b o : List ℕ) (size n : ℕ) → o ≡ sets b (size - 8) (bigEndian 8 (n % 2 ^ 61 * 8)) → 8 ≤ size → size ≤ length b →
     take size o ≡ take (size - 8) b ++ bigEndian 8 (8 * n)
 count-end b o size n e h l =
-    let a : size ≡ size - 8 + 8 = omega arith in
+    let count = bigEndian 8 (8 * n) in
     let d : n % 2 ^ 61 * 8 ≡ (8 * n) % 2 ^ 64 = omega arith in
-    let low : bigEndian 8 (n % 2 ^ 61 * 8) ≡ bigEndian 8 (8 * n) = rw d (bigEndian-low 8 0 (8 * n)) in
-    let f : length (bigEndian 8 (8 * n)) ≤ 8 = omega (arith, length-bigEndian 8 (8 * n)) in
-    let g : 8 ≤ length (bigEndian 8 (8 * n)) = omega (arith, length-bigEndian 8 (8 * n)) in
-    let k : size - 8 ≤ length b = omega arith in
-    ap (λ (j : ℕ). take j o) a ∙ rw (e, low) (take-paste b (size - 8) (bigEndian 8 (8 * n)) 8 k g)
-    ∙ ap (λ (v : List ℕ). take (size - 8) b ++ v) (take-all 8 (bigEndian 8 (8 * n)) f)
+    let low : bigEndian 8 (n % 2 ^ 61 * 8) ≡ count = rw d (bigEndian-low 8 0 (8 * n)) in
+    let k = length-bigEndian 8 (8 * n) in
+    rw (e, low) (take-stored b count (size - 8) size (omega arith) (omega arith))
 
 -- where the padded message ends
 pub length-pad : (m : List ℕ) → length (pad m) ≡ paddedLength (length m)
-unfolding pad zeros
-length-pad m = simp (length-append, length-replicate, length-bigEndian) (omega arith)
+unfolding pad
+length-pad m = simp (length-append, length-zeros, length-bigEndian) (omega arith)
 
 -- the rest of the message, marked and counted, is the end of the padded message
 pub end-made : (m b r : List ℕ) (size : ℕ) → wholes (length m) + size ≡ paddedLength (length m) →
     b ≡ rest m ++ (0x80 ∷ zeros (127 - length (rest m))) → take size r ≡ take (size - 8) b ++ bigEndian 8 (8 * length m) →
     take size r ≡ drop (wholes (length m)) (pad m)
-unfolding pad zeros
+unfolding pad
 end-made m b r size h e f =
     let n = length m in
     let l : length (rest m) ≡ n - wholes n = length-drop (wholes n) m in

@@ -7,10 +7,13 @@ use native.Mathlib.Nat.{add-zero, zero-add, add-suc, add-assoc}
 use native.Mathlib.Omega.{arith}
 use borrow.Author.Tests.{lt-ltb, le-ltb}
 use lib.ListN.{length, take, drop, getD, set, length-drop, length-append}
-use lib.Seq.{getD-take, take-all, take-suc-set, take-append-le, drop-append-le, drop-drop}
+use lib.Seq.{sets, getD-take, take-all, take-suc-set, take-append-le, drop-append-le, drop-drop}
+use Rattle.octets.specs.Numbers.{bigEndian}
 use Rattle.octets.proofs.Lists.{at-left}
+use Rattle.octets.proofs.Numbers.{length-bigEndian}
+use Rattle.octets.proofs.Parts.{take-stored}
 use Rattle.sha256.specs.Parts.{There}
-use Rattle.sha256.specs.Sha256.{K, round, rounds, word, laterWord, schedule, block, compress, absorb}
+use Rattle.sha256.specs.Sha256.{K, round, rounds, word, laterWord, schedule, block, compress, absorb, joined}
 
 -- rounds in parts
 pub rounds-add : (a n t : ℕ) (w s : List ℕ) → rounds (a + n) t w s ≡ rounds n (t + a) w (rounds a t w s)
@@ -118,3 +121,12 @@ absorb-front (suc a) s p q h =
     let b : 64 * a ≤ length p = omega arith in
     let d : 64 ≤ length (drop (64 * a) p) = simp length-drop (omega arith) in
     rw (absorb-front a s p q b, drop-append-le (64 * a) p q, take-append-le 64 (drop (64 * a) p) q)
+
+-- one word more is stored behind those written
+pub joined-step : (s o r : List ℕ) (i : ℕ) → take (4 * i) o ≡ joined i s → r ≡ sets o (4 * i) (bigEndian 4 (getD s i 0)) →
+    4 * i + 4 ≤ length o → take (4 * (i + 1)) r ≡ joined (i + 1) s
+unfolding joined
+joined-step s o r i e f h =
+    let word = bigEndian 4 (getD s i 0) in
+    let k = length-bigEndian 4 (getD s i 0) in
+    rw (f, add-one i, ← e) (take-stored o word (4 * i) (4 * suc i) (omega arith) (omega arith))

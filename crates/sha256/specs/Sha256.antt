@@ -1,20 +1,18 @@
 -- SHA-256, written from FIPS 180-4 (August 2015) section by section, to be read beside it. Bytes and 32-bit words are numbers, a message
 -- is a list of bytes. The standard takes messages of fewer than 2 ^ 64 bits; these are messages of whole bytes, and of any length: the
--- count of bits is written modulo 2 ^ 64.
+-- count of bits is written modulo 2 ^ 64. 3.1: `bigEndian n x` is an integer as n bytes, the most significant first; of a larger one its n
+-- low bytes.
 use Prim.Native.Nat.{ℕ, zero, suc, _+_, _-_, _*_, _/_, _%_, _^_}
 use mathlib.Core.Bool.{cond}
 use mathlib.Core.List.{List, [], _∷_, _++_}
 use lib.Bits.{bitAnd, bitOr, bitXor}
 use lib.Dec.{ltb}
-use lib.ListN.{length, getD, take, drop, replicate}
+use lib.ListN.{length, getD, take, drop}
 use Rattle.octets.specs.Build.{build}
+use Rattle.octets.specs.Numbers.{bigEndian}
+use Rattle.octets.specs.Parts.{zeros}
 
 infixl 6 _⊞_
--- 3.1: an integer as n bytes, the most significant first. Of a larger one its n low bytes
-unfoldable pub bigEndian : ℕ → ℕ → List ℕ
-bigEndian zero x = []
-bigEndian (suc n) x = (x / 2 ^ (8 * n) % 2 ^ 8) ∷ bigEndian n x
-
 -- 3.2: the sum modulo 2 ^ 32, the complement of a word, the shift and the rotation to the right by n
 abbrev pub _⊞_ : ℕ → ℕ → ℕ
 x ⊞ y = (x + y) % 2 ^ 32
@@ -65,7 +63,7 @@ abbrev pub zeroCount : ℕ → ℕ
 zeroCount n = (119 - n % 64) % 64
 
 unfoldable pub pad : List ℕ → List ℕ
-pad m = m ++ ((0x80 ∷ replicate (zeroCount (length m)) 0) ++ bigEndian 8 (8 * length m))
+pad m = m ++ ((0x80 ∷ zeros (zeroCount (length m))) ++ bigEndian 8 (8 * length m))
 
 -- 5.2.1: the padded message is parsed into blocks of 512 bits, block i (counted from 0), and a block into sixteen words, word t
 abbrev pub block : ℕ → List ℕ → List ℕ

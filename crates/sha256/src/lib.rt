@@ -4,7 +4,7 @@ ghost use mathlib.Core.Path.{_≡_};
 ghost use Rattle.sha256.specs.Sha256.{sha256};
 
 mod digest; // the hash value as bytes
-mod operations; // a number as bytes, the rotation, the six functions
+mod operations; // the rotation, the six functions
 mod rounds; // blocks taken into the hash value
 mod schedule; // the schedule of a block
 mod tail; // the end of the padded message

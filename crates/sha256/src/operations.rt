@@ -1,22 +1,7 @@
-// A number as bytes (3.1), the rotation of 3.2 and the six functions of 4.1.2.
+// The rotation of 3.2 and the six functions of 4.1.2.
 ghost use mathlib.Core.Path.{_≡_};
-ghost use Prim.Native.Nat.{_+_, _≤_, _<_};
-ghost use lib.ListN.{length};
-ghost use lib.Seq.{paste};
-ghost use Rattle.sha256.specs.Sha256.{bigEndian, ROTR, Ch, Maj, Σ0, Σ1, σ0, σ1};
-
-// The last bytes of a number, width of them, the most significant first, at a place.
-pub(crate) fn put(out: &mut [u8], at: usize, x: u64, width: usize)
-    requires { ⌜ (width ≤ 8) × (at + width ≤ length (now out)) ⌝ }
-    ensures { λ r. ⌜ now (out .exit) ≡ paste (now (out .entry)) at (bigEndian width x) width ⌝ }
-{
-    let mut i: usize = 0;
-    while i < width {
-        let shift = 8 * (width - 1 - i);
-        out[at + i] = ((x >> shift) % 256) as u8;
-        i += 1;
-    }
-}
+ghost use Prim.Native.Nat.{_<_};
+ghost use Rattle.sha256.specs.Sha256.{ROTR, Ch, Maj, Σ0, Σ1, σ0, σ1};
 
 fn rotated(x: u32, n: u32) -> u32
     requires { ⌜ (0 < n) × (n < 32) ⌝ }

@@ -2,10 +2,11 @@
 ghost use mathlib.Core.Path.{_≡_};
 ghost use mathlib.Core.List.{_∷_, _++_};
 ghost use Prim.Native.Nat.{_+_, _-_, _*_, _≤_};
-ghost use lib.ListN.{length, take, drop, replicate};
-ghost use Rattle.sha256.specs.Sha256.{bigEndian, pad};
+ghost use lib.ListN.{length, take, drop};
+ghost use Rattle.octets.specs.Numbers.{bigEndian};
+ghost use Rattle.octets.specs.Parts.{zeros};
+ghost use Rattle.sha256.specs.Sha256.{pad};
 ghost use Rattle.sha256.specs.Parts.{wholes, rest, paddedLength};
-use crate::operations::put;
 
 // How long the end is, of a message of n bytes: two blocks where the mark and the count find no room in one.
 pub(crate) fn size(n: usize) -> usize
@@ -24,7 +25,7 @@ pub(crate) fn made(message: &[u8], size: usize) -> [u8; 128]
 
 // The rest of the message, the mark, and zeros.
 fn marked(message: &[u8]) -> [u8; 128]
-    ensures { λ r. ⌜ r ≡ rest (now (message .entry)) ++ (0x80 ∷ replicate (127 - length (rest (now (message .entry)))) 0) ⌝ }
+    ensures { λ r. ⌜ r ≡ rest (now (message .entry)) ++ (0x80 ∷ zeros (127 - length (rest (now (message .entry))))) ⌝ }
 {
     let from = 64 * (message.len() / 64);
     let left = message.len() - from;
@@ -45,6 +46,6 @@ fn counted(b: [u8; 128], size: usize, n: usize) -> [u8; 128]
 {
     let bits = (n as u64) % 0x2000_0000_0000_0000 * 8;
     let mut out = b;
-    put(&mut out, size - 8, bits, 8);
+    octets::put_number(&mut out, size - 8, bits, 8);
     out
 }

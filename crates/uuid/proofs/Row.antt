@@ -10,6 +10,7 @@ use lib.Dec.{T}
 use lib.ListN.{length, getD}
 use Rattle.octets.specs.Bytes.{Bytes}
 use Rattle.octets.proofs.Computed.{both, both-left, both-right, below, below-at}
+use Rattle.octets.proofs.Tests.{is-false}
 use Rattle.form.specs.Regex.{Re, nullable, alive, deriv, judgeFrom}
 use Rattle.form.specs.declared.Verdict.{Verdict}
 use Rattle.form.specs.declared.Verdict.the-variants.{Fits, Stops}
@@ -44,10 +45,6 @@ atEnd r = both (nullable r) (below 256 (λ c. not (alive (deriv c r))))
 abbrev pub isRow : Row → Re → List Re → Bool
 isRow p r [] = atEnd r
 isRow p r (rest ∷ more) = both (atPlace p r rest) (isRow (next p) rest more)
-
-is-false : (b : Bool) → T (not b) → b ≡ false
-is-false true t = absurd t
-is-false false t = refl
 
 step : (t : Bool) (d rest : Re) (n : ℕ) (cs : List ℕ) (v : Verdict) → T (leadsBy t d rest) → judgeFrom rest (suc n) cs ≡ v →
     cond (alive d) (judgeFrom d (suc n) cs) (Stops n) ≡ cond t v (Stops n)

@@ -18,6 +18,7 @@ use Rattle.octets.specs.Build.{build}
 use Rattle.octets.proofs.Computed.{implies, implied, below, below-at}
 use Rattle.octets.proofs.Built.{length-build, build-at}
 use Rattle.octets.proofs.Lists.{bytes, byte-at}
+use Rattle.octets.proofs.Tests.{both}
 use Rattle.form.specs.Regex.{Re, judge}
 use Rattle.form.specs.Listings.{idForm}
 use Rattle.form.specs.Matches.{Matches}
@@ -45,7 +46,7 @@ use Rattle.uuid.specs.Id.{
   inForm,
   writeId,
 }
-use Rattle.uuid.proofs.Tests.{only-if, and-parts, to-test}
+use Rattle.uuid.proofs.Tests.{only-if, to-test}
 use Rattle.uuid.proofs.Hex.{char-value, value-small, value-char}
 use Rattle.uuid.proofs.Letters.{
   form-bytes,
@@ -107,12 +108,12 @@ module _ (b : List ℕ) (e : inForm b ≡ true) where
   tests = only-if (eqb (length b) 16) _ e .1
 
   version : leb 1 (getD b 6 0 / 16) && leb (getD b 6 0 / 16) 5 ≡ true
-  version = and-parts _ (leb 8 (getD b 8 0 / 16)) (and-parts _ (leb (getD b 8 0 / 16) 11) tests .0) .0
+  version = both _ (leb 8 (getD b 8 0 / 16)) (both _ (leb (getD b 8 0 / 16) 11) tests .0) .0
 
   variant : leb 8 (getD b 8 0 / 16) && leb (getD b 8 0 / 16) 11 ≡ true
   variant =
-      let x = and-parts _ (leb (getD b 8 0 / 16) 11) tests in
-      rw (and-parts (leb 1 (getD b 6 0 / 16) && leb (getD b 6 0 / 16) 5) (leb 8 (getD b 8 0 / 16)) (x .0) .1) (x .1)
+      let x = both _ (leb (getD b 8 0 / 16) 11) tests in
+      rw (both (leb 1 (getD b 6 0 / 16) && leb (getD b 6 0 / 16) 5) (leb 8 (getD b 8 0 / 16)) (x .0) .1) (x .1)
 
   rules : (k : ℕ) → T (byteRule k (getD b k 0))
   rules k = go (eqb k 6) refl (eqb k 8) refl
@@ -252,9 +253,9 @@ module _ (s : List ℕ) (e : judge idForm s ≡ Fits) where
 
   pub id-in-form : inForm (idOf s) ≡ true
   id-in-form =
-      let v = and-parts (leb 1 (hexValue (getD s 14 0))) (leb (hexValue (getD s 14 0)) 5) (is-true (versionRule (getD s 14 0))
+      let v = both (leb 1 (hexValue (getD s 14 0))) (leb (hexValue (getD s 14 0)) 5) (is-true (versionRule (getD s 14 0))
       (version-at s e)) in
-      let u = and-parts (leb 8 (hexValue (getD s 19 0))) (leb (hexValue (getD s 19 0)) 11) (is-true (variantRule (getD s 19 0))
+      let u = both (leb 8 (hexValue (getD s 19 0))) (leb (hexValue (getD s 19 0)) 11) (is-true (variantRule (getD s 19 0))
       (variant-at s e)) in
       rw (eq-eqb (length (idOf s)) 16 id-long, first-digit 6 (omega arith), first-digit 8 (omega arith), v .0, v .1, u .0, u .1)
 

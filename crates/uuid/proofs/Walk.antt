@@ -15,9 +15,9 @@ use Rattle.form.specs.Listings.{idForm}
 use Rattle.form.specs.declared.Verdict.the-variants.{Fits, Stops}
 use Rattle.octets.proofs.Computed.{below, below-at}
 use Rattle.octets.proofs.Lists.{byte-at}
+use Rattle.octets.proofs.Tests.{both}
 use Rattle.uuid.specs.Id.{placeOf, byteAt}
 use Rattle.uuid.specs.Row.{mayStand, Walked, StopsAt, digitOf}
-use Rattle.uuid.proofs.Tests.{and-parts}
 use Rattle.uuid.proofs.Hex.{value-is, value-small}
 use Rattle.uuid.proofs.Row.{row-fits, row-stops}
 use Rattle.uuid.proofs.Letters.{id-row, form-bytes, letters, high-hex, low-hex}
@@ -80,7 +80,7 @@ through s k = eqb k 36 && eqb (length s) 36
 module _ (s : List ℕ) (b : Bytes s) (k : ℕ) (w : StopsAt s k) where
   pub goes-through : through s k ≡ true → judge idForm s ≡ Fits
   goes-through t =
-      let e = and-parts (eqb k 36) (eqb (length s) 36) t in
+      let e = both (eqb k 36) (eqb (length s) 36) t in
       id-row s b ∙ row-fits mayStand 36 0 s (eqb-true (length s) 36 (e .1)) (λ i h. w .before i (omega (arith, eqb-true k 36 (e .0))))
 
   pub stops-there : through s k ≡ false → Stops k ≡ judge idForm s

@@ -4,7 +4,7 @@ use mathlib.Core.Path.{_≡_, refl, _∙_}
 use native.Mathlib.Omega.{arith}
 use lib.ListN.{length, length-set}
 use lib.Seq.{sets}
-use Rattle.amount.specs.Digits.{lastDigits}
+use Rattle.octets.specs.Decimal.{inDigits}
 use Rattle.amount.proofs.Digits.{fill-pair, fill-last, fill-none}
 use Rattle.amount.proofs.put_pairs.Statement.{statement}
 use Rattle.amount.proofs.put_pairs.Tie as tie
@@ -12,7 +12,7 @@ use Rattle.amount.proofs.put_pairs.Tie as tie
 abbrev Inv-loop : tie.InvT-loop
 Inv-loop n out₀ from to tens ones rest₀ k₀ out rest k =
     (from ≤ k) × (k ≤ to) × (length out ≡ length out₀)
-    × (sets out from (lastDigits (k - from) rest) ≡ sets out₀ from (lastDigits (to - from) n))
+    × (sets out from (inDigits (k - from) rest) ≡ sets out₀ from (inDigits (to - from) n))
 
 abbrev μ-loop : tie.MeasureT-loop
 μ-loop n out₀ from to tens ones rest₀ k₀ out rest k = k

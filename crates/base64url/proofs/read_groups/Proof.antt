@@ -110,7 +110,7 @@ loop-again c =
     let p = c .before .before .before .before .before .before .before .before .before .before .pre in
     let s = c .before .before .before .before .before .before .before .before .before .before .args .s .now in
     let g = c .before .before .group-of in
-    let t = not-false _ (c .if1 .left) in (
+    let t = not-false (g .result .letters) (c .if1 .left) in (
       search needs,
       simp length-set (l .inv .1),
       group-taken s (l .bytes) (l .k) (g .result) (p .1) (l .inv .1) (search needs) (g .ensures) (bytesOf (map valueOf s)) (l .inv .2) t,

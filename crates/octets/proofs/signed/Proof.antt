@@ -5,7 +5,7 @@ use lib.IntN.{ℤ, pos, negsuc, _+ℤ_, _-ℤ_, negℤ}
 use mir.Syntax.{w64}
 use mir.Val.{SFits, toZ, ofZ}
 use mir.Facts.{toZ-ofZ, toZ-pos, toZ-neg}
-use Rattle.octets.proofs.Integers.{up, dn, same, sum-split, negate-split, fits-split}
+use Rattle.octets.proofs.Integers.{same, sum-split, negate-split, fits-split}
 use borrow.Author.Needs.{needs}
 use Rattle.octets.proofs.signed.Statement.{statement}
 use Rattle.octets.proofs.signed.Tie as tie

@@ -7,7 +7,8 @@ use lib.Signed.{ltZ, mag}
 use mir.Syntax.{w64}
 use mir.Val.{SFits, toZ, ofZ}
 use mir.Facts.{toZ-ofZ}
-use Rattle.octets.proofs.Integers.{up, dn, sum-split, negate-split, mag-split, fits-split, bits-split, nonneg-bits, nonneg-known, nonneg-split, nonneg-cast, neg-split'}
+use Rattle.octets.proofs.Integers.{sum-split, negate-split, mag-split, fits-split, bits-split, nonneg-bits, nonneg-known, nonneg-split, nonneg-cast, neg-split'}
+use Rattle.octets.specs.Integers.{up}
 use Rattle.octets.proofs.unsigned.Statement.{statement}
 use Rattle.octets.proofs.unsigned.Tie as tie
 

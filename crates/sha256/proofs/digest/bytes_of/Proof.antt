@@ -4,7 +4,7 @@ use mathlib.Core.Path.{_≡_, refl, sym, _∙_}
 use lib.ListN.{length, take}
 use lib.Seq.{take-all}
 use Rattle.sha256.specs.Sha256.{joined}
-use Rattle.sha256.proofs.BigEndian.{joined-step}
+use Rattle.sha256.proofs.Turns.{joined-step}
 use borrow.Author.Needs.{needs}
 use native.Mathlib.Omega.{arith}
 use Rattle.sha256.proofs.digest.bytes_of.Statement.{statement}
@@ -20,23 +20,23 @@ loop-holds : tie.Need-loop-holds Inv-loop μ-loop
 unfolding joined
 loop-holds c = (search needs, refl, refl)
 
-slice-aggregate-put : tie.Need-slice-aggregate-put Inv-loop μ-loop
-slice-aggregate-put c = search needs
+slice-aggregate-put-number : tie.Need-slice-aggregate-put-number Inv-loop μ-loop
+slice-aggregate-put-number c = search needs
 
-mul-put : tie.Need-mul-put Inv-loop μ-loop
-mul-put c = search needs
+mul-put-number : tie.Need-mul-put-number Inv-loop μ-loop
+mul-put-number c = search needs
 
-mul-put-2 : tie.Need-mul-put-2 Inv-loop μ-loop
-mul-put-2 c = search needs
+mul-put-number-2 : tie.Need-mul-put-number-2 Inv-loop μ-loop
+mul-put-number-2 c = search needs
 
-array-read-put : tie.Need-array-read-put Inv-loop μ-loop
-array-read-put c = search needs
+array-read-put-number : tie.Need-array-read-put-number Inv-loop μ-loop
+array-read-put-number c = search needs
 
-cast-put : tie.Need-cast-put Inv-loop μ-loop
-cast-put c = search needs
+cast-put-number : tie.Need-cast-put-number Inv-loop μ-loop
+cast-put-number c = search needs
 
-put-requires : tie.Need-put-requires Inv-loop μ-loop
-put-requires c κs = search needs
+put-number-requires : tie.Need-put-number-requires Inv-loop μ-loop
+put-number-requires c κs = search needs
 
 add-i : tie.Need-add-i Inv-loop μ-loop
 add-i c = search needs
@@ -47,7 +47,7 @@ loop-less c = search needs
 loop-again : tie.Need-loop-again Inv-loop μ-loop
 loop-again c =
     let l = c .before .before .before .before .loop in
-    (search needs, search needs, joined-step _ (l .out) _ (l .i) (l .inv .2) (c .before .put .ensures) (omega arith))
+    (search needs, search needs, joined-step _ (l .out) _ (l .i) (l .inv .2) (c .before .put-number .ensures) (omega arith))
 
 returns : tie.Need-returns Inv-loop μ-loop
 returns c =
@@ -63,12 +63,12 @@ bytes-of-spec =
     Inv-loop
     μ-loop
     loop-holds
-    slice-aggregate-put
-    mul-put
-    mul-put-2
-    array-read-put
-    cast-put
-    put-requires
+    slice-aggregate-put-number
+    mul-put-number
+    mul-put-number-2
+    array-read-put-number
+    cast-put-number
+    put-number-requires
     add-i
     loop-less
     loop-again

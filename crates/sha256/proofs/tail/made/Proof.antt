@@ -1,5 +1,5 @@
 -- `sha256::tail::made` meets its contract: the rest, marked and counted, is what the padding appends.
-use Rattle.sha256.proofs.Padding.{zeros, end-made}
+use Rattle.sha256.proofs.Padding.{end-made}
 use borrow.Author.Needs.{needs}
 use Rattle.sha256.proofs.tail.made.Statement.{statement}
 use Rattle.sha256.proofs.tail.made.Tie as tie
@@ -11,7 +11,6 @@ counted-requires : tie.Need-counted-requires
 counted-requires c κs = search needs
 
 returns : tie.Need-returns
-unfolding zeros
 returns c =
     let b = c .before .before .before in
     end-made (b .args .message .now) _ _ (b .args .size) (b .pre) (c .before .marked .ensures) (c .counted .ensures)

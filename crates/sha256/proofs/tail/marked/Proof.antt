@@ -3,7 +3,8 @@ use Prim.Native.Nat.{_-_, _≤_}
 use mathlib.Core.Path.{_≡_, refl}
 use mathlib.Core.List.{_++_}
 use lib.ListN.{length, take, drop, length-set}
-use Rattle.sha256.proofs.Padding.{zeros, copy-step, mark-step}
+use Rattle.octets.specs.Parts.{zeros}
+use Rattle.sha256.proofs.Padding.{copy-step, mark-step}
 use borrow.Author.Needs.{needs}
 use native.Mathlib.Omega.{arith}
 use Rattle.sha256.proofs.tail.marked.Statement.{statement}
@@ -50,7 +51,6 @@ array-write-out-2 : tie.Need-array-write-out-2 Inv-loop μ-loop
 array-write-out-2 c = search needs
 
 returns : tie.Need-returns Inv-loop μ-loop
-unfolding zeros
 returns c =
     let l = c .before .loop in
     mark-step (c .before .before .args .message .now) (l .out) (l .i) 128 (l .inv .2) (omega arith) (omega arith)
