@@ -6,7 +6,7 @@ use lib.Dec.{eqb}
 use Rattle.rules.specs.Answers.{isDone}
 use Rattle.rules.specs.View.{State, reserved, committed, aborted, expired, Transfer}
 use Rattle.rules.specs.Rules.{abortState}
-use Rattle.book.proofs.Ends.{clash, not-resent}
+use Rattle.book.proofs.Decisions.{clash, not-resent}
 use Rattle.abort.specs.Inner.{byState}
 
 by : (s : State) (code : ℕ) → isDone (abortState s code) ≡ true → s ≡ reserved

@@ -15,7 +15,8 @@ use Rattle.shape.specs.Shape.{shape}
 use Rattle.shape.specs.Sound.{SoundRecord, SoundEnded}
 use Rattle.shape.proofs.Sound.{sound}
 use Rattle.book.specs.Step.{Outcome, slotOf}
-use Rattle.book.proofs.Ends.{body-ended, ended-kept, step-kept}
+use Rattle.book.proofs.Ends.{body-ended}
+use Rattle.book.proofs.Decisions.{ended-kept, step-kept}
 use Rattle.abort.specs.Effect.{abortStep}
 use Rattle.abort.specs.Inner.{byState, abortedAt}
 use Rattle.abort.proofs.States.{ends}

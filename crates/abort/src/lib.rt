@@ -9,13 +9,12 @@ use tokens::CodeRead;
 ghost use mathlib.Core.Path.{_≡_};
 ghost use mathlib.Core.Bool.{true};
 ghost use lib.ListN.{length};
-ghost use Rattle.record.specs.Layout.{num, PAYER};
 ghost use Rattle.record.specs.Rows.{row};
 ghost use Rattle.rules.specs.Rules.{abortState};
 ghost use Rattle.shape.specs.Reading.{stateOf, transferOf, namesOf};
 ghost use Rattle.shape.specs.Shape.{shape};
 ghost use Rattle.book.specs.Step.{bookOf, outcome, slotOf};
-ghost use Rattle.book.specs.Inner.{judgedBy, PayeeKnown, CanEnd, Decided, byPayee};
+ghost use Rattle.book.specs.Inner.{judgedBy, PayeeKnown, Decided, byPayee};
 ghost use Rattle.abort.specs.Effect.{abortStep};
 ghost use Rattle.abort.specs.Inner.{byState, abortedAt};
 
@@ -61,24 +60,7 @@ fn decide(h: Head, opened: &[u8], ended: &[u8], sender: &[u8], id: [u8; 16], cod
     }
 }
 
-// The record of a slot ends as aborted with the code, and its payer's position falls.
-fn end(h: Head, opened: &mut [u8], ended: &mut [u8], slot: usize, code: u16) -> Head
-    requires { ⌜ CanEnd (bookOf h (now opened) (now ended)) slot (num PAYER (row (now opened) slot)) ⌝ }
-    ensures { λ r. ⌜ bookOf r (now (opened .exit)) (now (ended .exit))
-        ≡ abortedAt (bookOf h (now (opened .entry)) (now (ended .entry))) slot code ⌝ }
-{
-    let at = slot * 160;
-    let payer = opened[at + 17] as usize;
-    let none = [0u8; 32];
-    let aborted = Ending {
-        state: 4,
-        by: 2,
-        code,
-        fulfilment: none,
-    };
-    book::end_record(h, opened, ended, slot, payer, aborted)
-}
-
+// Where it is 0 the record ends as aborted with the code, and its payer's position falls.
 fn settle(
     h: Head,
     opened: &mut [u8],
@@ -93,13 +75,14 @@ fn settle(
         byPayee b (now (sender .entry)) id (byState code) (abortedAt b (slotOf b id) code)) ⌝ }
 {
     let d = decide(h, opened, ended, sender, id, code);
-    let answer = d.answer;
-    let mark = d.mark;
-    if rules::is_done(answer) {
-        let next = end(h, opened, ended, d.slot, code);
-        return book::reply(next, answer, mark);
-    }
-    book::reply(h, answer, mark)
+    let none = [0u8; 32];
+    let aborted = Ending {
+        state: 4,
+        by: 2,
+        code,
+        fulfilment: none,
+    };
+    book::carry_out(h, opened, ended, d, 17, aborted)
 }
 
 // The call on a book of the shape.

@@ -13,9 +13,10 @@ use borrow.Author.Tests.{leb-true, leb-false}
 use Rattle.amount.specs.declared.Amount.{Amount}
 use Rattle.account.specs.declared.Position.{Position}
 use Rattle.account.specs.Position.{worth, value, held, raisedBy, loweredBy, within}
+use Rattle.octets.specs.Integers.{up, dn}
 use Rattle.octets.proofs.Integers as integers
-use Rattle.octets.proofs.Integers.{up, dn, sum-split, mul-split, neg-split', nonneg-split}
-use Rattle.account.proofs.Split.{difference-split, sum-is, difference-is}
+use Rattle.octets.proofs.Integers.{sum-split, mul-split, neg-split', nonneg-split, difference-split}
+use Rattle.account.proofs.Split.{sum-is, difference-is}
 
 -- the value in naturals, of which omega can speak
 pub value-split : (p : Position) → up (value p) + dn (p .units) * 10000 ≡ up (p .units) * 10000 + p .remainder + dn (value p)

@@ -1,16 +1,13 @@
--- Sums and differences of signed numbers as the code computes them, in 64 bits, and differences as omega can speak of them.
+-- Sums and differences of signed numbers as the code computes them, in 64 bits.
 use Prim.Native.Nat.{ℕ, _+_, _<_, _^_}
 use mathlib.Core.Path.{_≡_, _∙_}
 use native.Mathlib.Omega.{arith}
-use lib.IntN.{ℤ, pos, _+ℤ_, _-ℤ_, negℤ}
+use lib.IntN.{ℤ, pos, _+ℤ_, _-ℤ_}
 use lib.Signed.{mag}
 use mir.Syntax.{w64}
 use mir.Val.{SFits, ofZ, toZ}
 use mir.Facts.{toZ-ofZ, toZ-pos}
-use Rattle.octets.proofs.Integers.{up, dn, sum-split, negate-split, mag-split, fits-split}
-
-pub difference-split : (z w : ℤ) → up (z -ℤ w) + (dn z + up w) ≡ up z + dn w + dn (z -ℤ w)
-difference-split z w = omega (arith, sum-split z (negℤ w), negate-split w)
+use Rattle.octets.proofs.Integers.{sum-split, difference-split, mag-split, fits-split}
 
 -- what the code computes of an i64 x and a u64 n that it has cast to i64: both are read as the numbers that they are, and half the range
 -- for each leaves room for the result

@@ -9,7 +9,7 @@ use lib.Dec.{ltb}
 use lib.ListN.{length, getD}
 use borrow.Author.Tests.{ltb-true, ltb-false}
 use Rattle.octets.specs.Lists.{first, index}
-use Rattle.account.proofs.Search.{first-at, first-none}
+use Rattle.octets.proofs.Search.{first-at, first-none}
 use Rattle.record.specs.Layout.{Row}
 use Rattle.record.specs.Rows.{rows, row, holds}
 use Rattle.record.proofs.Rows.{length-rows, rows-at}

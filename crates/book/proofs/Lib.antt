@@ -1,4 +1,4 @@
 pub mod Replies
-pub mod Names
 pub mod Held
 pub mod Ends
+pub mod Decisions

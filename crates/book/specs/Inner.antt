@@ -9,19 +9,23 @@ use Rattle.octets.specs.Parts.{same}
 use Rattle.account.specs.declared.Head.{Head}
 use Rattle.account.specs.Position.{Room, InRange}
 use Rattle.account.specs.Head.{accountAt, Named}
-use Rattle.record.specs.Layout.{Row, num, PAYEE, NUMBER}
+use Rattle.record.specs.Layout.{Row, bytes, num, PAYEE, NUMBER}
 use Rattle.record.specs.Rows.{row}
 use Rattle.rules.specs.declared.Answer.{Answer}
 use Rattle.rules.specs.declared.Answer.the-variants.{OtherContent, NotThePayee, Resend}
 use Rattle.rules.specs.Answers.{isDone}
 use Rattle.rules.specs.View.{Transfer}
-use Rattle.rules.specs.Rules.{payeeRules}
+use Rattle.rules.specs.Rules.{payeeRules, numberOr}
 use Rattle.shape.specs.Reading.{Book, namesOf, heldTransfer}
 use Rattle.book.specs.declared.Decision.{Decision}
 use Rattle.book.specs.declared.Place.{Place}
 use Rattle.book.specs.declared.Place.the-variants.{Opened, Ended, Nowhere}
 use Rattle.book.specs.Step.{Outcome, slotOf}
-use Rattle.book.specs.Ending.{amountIn}
+use Rattle.book.specs.Ending.{amountIn, endedAt}
+
+-- an answer that changes nothing
+abbrev pub kept : Book → Answer → ℕ → Outcome
+kept b a mark = record { answer = a; mark = mark; left = b }
 
 abbrev pub resent : Bool → Answer
 resent sameContent = cond sameContent Resend OtherContent
@@ -63,20 +67,28 @@ pub record CanEnd (b : Book) (k i : ℕ) : Type 0 where
   pub place : b .head .finished * 160 + 160 ≤ length (b .ended)
   pub settles : CanSettle (b .head) i (row (b .opened) k)
 
+-- a decision that can be carried out: where it is 0 the record of its slot can end, for the party that this byte of the record names
+pub record CanCarryOut (b : Book) (d : Decision) (party : ℕ) : Type 0 where
+  pub byte : party < 160
+  pub ends : isDone (d .answer) ≡ true → CanEnd b (d .slot) (num (bytes party 1) (row (b .opened) (d .slot)))
+
+abbrev pub carriedOut : Book → Decision → (Row → ℕ) → (Row → Row) → Outcome
+carriedOut b d party ending = record {
+  answer = d .answer;
+  mark = d .mark;
+  left = cond (isDone (d .answer)) (endedAt b (d .slot) party ending) b;
+}
+
 -- the record at a place
 abbrev pub rowAt : Book → Place → Option Row
 rowAt b (Opened k) = some (row (b .opened) k)
 rowAt b (Ended k) = some (row (b .ended) k)
 rowAt b Nowhere = none
 
-abbrev pub numberOf : Option Transfer → ℕ
-numberOf none = 0
-numberOf (some t) = t .number
-
 -- what a fulfil or an abort is answered on the record of an id, and the slot where the answer is 0
 pub record Decided (b : Book) (sender id : List ℕ) (byState : Transfer → Answer) (d : Decision) : Type 0 where
   pub answer : d .answer ≡ payeeRules (heldTransfer b id) sender byState
-  pub mark : d .mark ≡ numberOf (heldTransfer b id)
+  pub mark : d .mark ≡ numberOr 0 (heldTransfer b id)
   pub slot : isDone (d .answer) ≡ true → d .slot ≡ slotOf b id
   pub taken : isDone (d .answer) ≡ true → slotOf b id < b .head .slots
 
@@ -84,6 +96,6 @@ pub record Decided (b : Book) (sender id : List ℕ) (byState : Transfer → Ans
 abbrev pub byPayee : Book → List ℕ → List ℕ → (Transfer → Answer) → Book → Outcome
 byPayee b sender id byState after = record {
   answer = payeeRules (heldTransfer b id) sender byState;
-  mark = numberOf (heldTransfer b id);
+  mark = numberOr 0 (heldTransfer b id);
   left = cond (isDone (payeeRules (heldTransfer b id) sender byState)) after b;
 }

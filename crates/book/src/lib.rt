@@ -9,13 +9,13 @@ ghost use lib.ListN.{length, getD};
 ghost use lib.Seq.{sets};
 ghost use mathlib.Core.List.{[]};
 ghost use Rattle.octets.specs.Parts.{same, zeros};
-ghost use Rattle.record.specs.Layout.{num, endedRow, PAYEE, NUMBER};
+ghost use Rattle.record.specs.Layout.{bytes, num, endedRow, PAYEE, NUMBER};
 ghost use Rattle.record.specs.Rows.{row};
 ghost use Rattle.rules.specs.Calls.{fits as fitsForm};
 ghost use Rattle.shape.specs.Reading.{namesOf};
-ghost use Rattle.book.specs.Step.{bookOf, whereIs};
+ghost use Rattle.book.specs.Step.{bookOf, outcome, whereIs};
 ghost use Rattle.book.specs.Ending.{settled as settledHead, amountIn};
-ghost use Rattle.book.specs.Inner.{resent, judgedBy, InBooks, PayeeNamed, CanSettle, CanEnd};
+ghost use Rattle.book.specs.Inner.{resent, judgedBy, InBooks, PayeeNamed, CanSettle, CanEnd, CanCarryOut, carriedOut};
 
 // What a call hands back beside the bytes that it was lent.
 pub struct Answered {
@@ -150,4 +150,29 @@ pub fn end_record(
     let place = h.finished as usize;
     record::move_ended(opened, ended, slot, place, e);
     next
+}
+
+// What is decided is carried out: where it is 0 the record of the slot ends, and the position of the party falls whose account number
+// is that byte of the record.
+pub fn carry_out(
+    h: Head,
+    opened: &mut [u8],
+    ended: &mut [u8],
+    d: Decision,
+    party: usize,
+    e: Ending,
+) -> Answered
+    requires { ⌜ CanCarryOut (bookOf h (now opened) (now ended)) d party ⌝ }
+    ensures { λ r. ⌜ outcome r (now (opened .exit)) (now (ended .exit)) ≡ carriedOut (bookOf h (now (opened .entry)) (now (ended .entry))) d
+        (num (bytes party 1)) (endedRow (e .state) (e .by) (e .code) (e .fulfilment)) ⌝ }
+{
+    let answer = d.answer;
+    let mark = d.mark;
+    if rules::is_done(answer) {
+        let at = d.slot * 160;
+        let account = opened[at + party] as usize;
+        let next = end_record(h, opened, ended, d.slot, account, e);
+        return reply(next, answer, mark);
+    }
+    reply(h, answer, mark)
 }

@@ -8,7 +8,7 @@ use Rattle.rules.specs.Answers.{isDone}
 use Rattle.rules.specs.Calls.{Content}
 use Rattle.rules.specs.View.{State, reserved, committed, aborted, expired, Transfer}
 use Rattle.rules.specs.Rules.{fulfilState}
-use Rattle.book.proofs.Ends.{clash, not-resent}
+use Rattle.book.proofs.Decisions.{clash, not-resent}
 use Rattle.fulfil.specs.Inner.{byState}
 
 by : (s : State) (c : Content) (fulfilment : List ℕ) → isDone (fulfilState s c fulfilment) ≡ true → s ≡ reserved

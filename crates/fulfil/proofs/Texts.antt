@@ -1,52 +1,16 @@
--- What the readers of an id and of a fulfilment tell of the forms, and of the values.
-use mathlib.Core.Path.{_≡_, refl, sym, ap, _∙_}
+-- The three texts of a fulfil: in form or not, and the values that are read.
+use mathlib.Core.Path.{_≡_, sym, ap, _∙_}
 use mathlib.Core.Bool.{Bool, true, _&&_}
 use lib.ListN.{length}
-use Rattle.octets.proofs.Equal.{and-assoc}
-use Rattle.form.specs.Regex.{judge}
+use Rattle.octets.proofs.Tests.{and-assoc, and-left, and-right}
 use Rattle.form.specs.Listings.{nameForm, idForm, conditionForm}
-use Rattle.form.specs.declared.Verdict.{Verdict}
-use Rattle.form.specs.declared.Verdict.the-variants.{Fits, Stops}
-use Rattle.record.proofs.Search.{and-left, and-right}
 use Rattle.uuid.specs.declared.IdRead.{IdRead}
-use Rattle.uuid.specs.Id.{idOf, readId, answer as idRead}
+use Rattle.uuid.specs.Id.{idOf, readId}
 use Rattle.base64url.specs.declared.ConditionRead.{ConditionRead}
-use Rattle.base64url.specs.Condition.{readCondition, answer as conditionRead}
+use Rattle.base64url.specs.Condition.{readCondition}
 use Rattle.base64url.proofs.Theorems.{held}
-use Rattle.rules.specs.Calls.{Text, fulfil, fits, isOf, inForm, conditionOf}
-use Rattle.book.proofs.Ends.{clash}
-
-pub id-fits : (s : Text) → fits (readId s .verdict) ≡ isOf idForm s
-unfolding readId
-id-fits s = by (judge idForm s)
-  where
-    by : (v : Verdict) → fits (idRead v (idOf s) .verdict) ≡ fits v
-    by Fits = refl
-    by (Stops n) = refl
-
-id-bytes : (s : Text) → isOf idForm s ≡ true → readId s .id ≡ idOf s
-unfolding readId
-id-bytes s e = by (judge idForm s) e
-  where
-    by : (v : Verdict) → fits v ≡ true → idRead v (idOf s) .id ≡ idOf s
-    by Fits e = refl
-    by (Stops n) e = clash e
-
-pub condition-fits : (s : Text) → fits (readCondition s .verdict) ≡ isOf conditionForm s
-unfolding readCondition
-condition-fits s = by (judge conditionForm s)
-  where
-    by : (v : Verdict) → fits (conditionRead v (conditionOf s) .verdict) ≡ fits v
-    by Fits = refl
-    by (Stops n) = refl
-
-condition-bytes : (s : Text) → isOf conditionForm s ≡ true → readCondition s .bytes ≡ conditionOf s
-unfolding readCondition
-condition-bytes s e = by (judge conditionForm s) e
-  where
-    by : (v : Verdict) → fits v ≡ true → conditionRead v (conditionOf s) .bytes ≡ conditionOf s
-    by Fits e = refl
-    by (Stops n) e = clash e
+use Rattle.rules.specs.Calls.{Text, fulfil, isOf, inForm, conditionOf}
+use Rattle.rules.proofs.Fields.{id-bytes, condition-bytes}
 
 -- the three tests, in the order of the code
 module _ (sender id fulfilment : Text) where

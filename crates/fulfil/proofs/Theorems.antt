@@ -13,7 +13,8 @@ use Rattle.shape.specs.Shape.{shape}
 use Rattle.shape.specs.Sound.{SoundRecord, SoundEnded}
 use Rattle.shape.proofs.Sound.{sound}
 use Rattle.book.specs.Step.{Outcome, slotOf}
-use Rattle.book.proofs.Ends.{body-ended, ended-kept, step-kept}
+use Rattle.book.proofs.Ends.{body-ended}
+use Rattle.book.proofs.Decisions.{ended-kept, step-kept}
 use Rattle.fulfil.specs.Effect.{fulfilStep}
 use Rattle.fulfil.specs.Inner.{byState, committedAt}
 use Rattle.fulfil.proofs.States.{ends}

@@ -9,14 +9,14 @@ ghost use mathlib.Core.Path.{_≡_};
 ghost use mathlib.Core.Bool.{true, cond};
 ghost use lib.ListN.{length};
 ghost use Rattle.octets.specs.Parts.{same as sameBytes};
-ghost use Rattle.record.specs.Layout.{num, get, PAYEE, CONDITION};
+ghost use Rattle.record.specs.Layout.{get, CONDITION};
 ghost use Rattle.record.specs.Rows.{row};
 ghost use Rattle.rules.specs.declared.Answer.the-variants.{Done, NoMatch};
 ghost use Rattle.rules.specs.Calls.{conditionFor};
 ghost use Rattle.shape.specs.Reading.{transferOf, namesOf};
 ghost use Rattle.shape.specs.Shape.{shape};
 ghost use Rattle.book.specs.Step.{bookOf, outcome, slotOf};
-ghost use Rattle.book.specs.Inner.{judgedBy, PayeeKnown, CanEnd, Decided, byPayee};
+ghost use Rattle.book.specs.Inner.{judgedBy, PayeeKnown, Decided, byPayee};
 ghost use Rattle.fulfil.specs.Effect.{fulfilStep};
 ghost use Rattle.fulfil.specs.Inner.{AnswersOn, byState, committedAt};
 
@@ -88,23 +88,7 @@ fn decide(
     }
 }
 
-// The record of a slot ends as committed by the fulfilment, and its payee's position falls.
-fn end(h: Head, opened: &mut [u8], ended: &mut [u8], slot: usize, fulfilment: [u8; 32]) -> Head
-    requires { ⌜ CanEnd (bookOf h (now opened) (now ended)) slot (num PAYEE (row (now opened) slot)) ⌝ }
-    ensures { λ r. ⌜ bookOf r (now (opened .exit)) (now (ended .exit))
-        ≡ committedAt (bookOf h (now (opened .entry)) (now (ended .entry))) slot fulfilment ⌝ }
-{
-    let at = slot * 160;
-    let payee = opened[at + 18] as usize;
-    let committed = Ending {
-        state: 3,
-        by: 1,
-        code: 0,
-        fulfilment,
-    };
-    book::end_record(h, opened, ended, slot, payee, committed)
-}
-
+// Where it is 0 the record ends as committed by the fulfilment, and its payee's position falls.
 fn settle(
     h: Head,
     opened: &mut [u8],
@@ -119,13 +103,13 @@ fn settle(
         byPayee b (now (sender .entry)) id (byState fulfilment) (committedAt b (slotOf b id) fulfilment)) ⌝ }
 {
     let d = decide(h, opened, ended, sender, id, fulfilment);
-    let answer = d.answer;
-    let mark = d.mark;
-    if rules::is_done(answer) {
-        let next = end(h, opened, ended, d.slot, fulfilment);
-        return book::reply(next, answer, mark);
-    }
-    book::reply(h, answer, mark)
+    let committed = Ending {
+        state: 3,
+        by: 1,
+        code: 0,
+        fulfilment,
+    };
+    book::carry_out(h, opened, ended, d, 18, committed)
 }
 
 // The call on a book of the shape.

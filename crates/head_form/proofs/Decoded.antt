@@ -13,14 +13,14 @@ use Rattle.octets.specs.Build.{build}
 use Rattle.octets.specs.Numbers.{number, bigEndian}
 use Rattle.octets.specs.Parts.{part, zeros}
 use Rattle.octets.proofs.Numbers.{length-bigEndian}
+use Rattle.octets.proofs.Built.{build-all}
+use Rattle.octets.proofs.Round.{number-of-bytes}
 use Rattle.account.specs.declared.Account.{Account}
 use Rattle.account.specs.declared.Head.{Head}
 use Rattle.account.specs.Head.{noAccount}
 use Rattle.head_form.specs.Fits.{AccountFits, Fits}
 use Rattle.head_form.specs.Form.{accountBytes, accountsBytes, frontBytes, headBytes, accountFrom, headFrom, numberAt, placeAt}
-use Rattle.head_form.proofs.Built.{build-all}
 use Rattle.head_form.proofs.Fields.{account-is, account-shift, head-is}
-use Rattle.head_form.proofs.Numbers.{number-of-bytes}
 use Rattle.head_form.proofs.Pieces.{laid, piece, piece-byte}
 use Rattle.head_form.proofs.Stores.{length-account, length-front}
 

@@ -18,15 +18,17 @@ use Rattle.octets.specs.Numbers.{bigEndian}
 use Rattle.octets.specs.Parts.{part, zeros, allZero}
 use Rattle.octets.proofs.Equal.{zero-zeros}
 use Rattle.octets.proofs.Lists.{byte-at}
+use Rattle.octets.proofs.Built.{length-build, built-at}
+use Rattle.octets.proofs.Round.{bytes-of-number, number-fits}
+use Rattle.octets.proofs.Tests.{both}
+use Rattle.octets.proofs.Parts.{bytes-drop, bytes-part, length-part}
+use Rattle.octets.proofs.Zeros.{zero-both}
 use Rattle.account.specs.declared.Account.{Account}
 use Rattle.account.specs.Head.{noAccount}
 use Rattle.head_form.specs.Fits.{AccountFits, Fits}
 use Rattle.head_form.specs.Form.{accountBytes, accountsBytes, frontBytes, headBytes, accountFrom, headFrom, numberAt}
 use Rattle.head_form.specs.Form.{placeAt, placeFormed, placesFormed, isFormed}
-use Rattle.head_form.proofs.Built.{length-build, build-at}
 use Rattle.head_form.proofs.Fields.{account-shift}
-use Rattle.head_form.proofs.Numbers.{bytes-of-number, number-fits}
-use Rattle.head_form.proofs.Parts.{both-true, bytes-drop, bytes-part, length-part, zero-both}
 use Rattle.head_form.proofs.Stores.{accounts-append}
 
 -- numbers read from a list of bytes
@@ -96,7 +98,7 @@ module _ (b : List ℕ) (count k : ℕ) (e : placeFormed b count k ≡ true) whe
   unfolding placeFormed
   place-used h =
       let n = getD b (placeAt k + 52) 0 in
-      both-true (allZero (part b (placeAt k + n) (32 - n))) (allZero (part b (placeAt k + 53) 11)) (rw (lt-leb count k h) at e)
+      both (allZero (part b (placeAt k + n) (32 - n))) (allZero (part b (placeAt k + 53) 11)) (rw (lt-leb count k h) at e)
 
   -- "the bytes 53 to 63 of each account place"
   pub tail-zero : allZero (part b (placeAt k + 53) 11) ≡ true
@@ -128,7 +130,7 @@ unfolding build accountsBytes placesFormed
 accounts-kept b bytes count zero h e = refl
 accounts-kept b bytes count (suc n) h e =
     let f : ℕ → Account = λ k. accountFrom b (placeAt k) in
-    let both = both-true (placesFormed b count n) (placeFormed b count n) e in
+    let both = both (placesFormed b count n) (placeFormed b count n) e in
     accounts-append (build n f) (f n ∷ []) ∙ rw (
       places-next b n,
       accounts-kept b bytes count n (omega arith) (both .0),
@@ -145,7 +147,7 @@ formed-facts b = go (eqb (length b) 2080) refl
     go : (t : Bool) → eqb (length b) 2080 ≡ t →
         cond t (allZero (part b 18 14) && placesFormed b (getD b 11 0) 32) false ≡ true →
         (length b ≡ 2080) × (allZero (part b 18 14) ≡ true) × (placesFormed b (getD b 11 0) 32 ≡ true)
-    go true l e = let both = both-true (allZero (part b 18 14)) _ e in (eqb-true (length b) 2080 l, both .0, both .1)
+    go true l e = let both = both (allZero (part b 18 14)) _ e in (eqb-true (length b) 2080 l, both .0, both .1)
     go false l e = absurd (false≢true e)
 
 pub head-kept : (b : List ℕ) → Bytes b → isFormed b ≡ true → headBytes (headFrom b) ≡ b
@@ -175,5 +177,5 @@ head-fits b bytes long = record {
   places = number-below b bytes 14 2 (omega arith);
   finished = number-below b bytes 16 2 (omega arith);
   all = length-build (λ k. accountFrom b (placeAt k)) 32;
-  each = λ k h. rw (build-at (λ j. accountFrom b (placeAt j)) noAccount 32 k h) (account-fits b bytes (placeAt k) (omega (arith, h)));
+  each = λ k h. rw (built-at (λ j. accountFrom b (placeAt j)) noAccount 32 k h) (account-fits b bytes (placeAt k) (omega (arith, h)));
 }

@@ -13,7 +13,7 @@ use mir.Syntax.{w64}
 use mir.Val.{toZ}
 use Rattle.octets.specs.Build.{build}
 use Rattle.octets.specs.Parts.{part}
-use Rattle.octets.proofs.Equal.{and-assoc}
+use Rattle.octets.proofs.Tests.{and-assoc}
 use Rattle.account.specs.declared.Account.{Account}
 use Rattle.account.specs.declared.Head.{Head}
 use Rattle.head_form.specs.Form.{accountFrom, headFrom, numberAt, placeAt, placeFormed, placesFormed}

@@ -1,9 +1,6 @@
-pub mod Built
 pub mod Decoded
 pub mod Encoded
 pub mod Fields
-pub mod Numbers
-pub mod Parts
 pub mod Pieces
 pub mod Same
 pub mod Stores

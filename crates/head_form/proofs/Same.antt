@@ -9,6 +9,9 @@ use lib.ListN.{length, take, drop, getD}
 use lib.Seq.{drop-drop, take-add, take-all, take-take}
 use Rattle.octets.specs.Bytes.{Bytes}
 use Rattle.octets.specs.Parts.{part, zeros, allZero}
+use Rattle.octets.proofs.Built.{built-at}
+use Rattle.octets.proofs.Tests.{both}
+use Rattle.octets.proofs.Parts.{length-part}
 use Rattle.amount.specs.declared.Amount.{Amount}
 use Rattle.account.specs.declared.Account.{Account}
 use Rattle.account.specs.declared.Head.{Head}
@@ -16,9 +19,7 @@ use Rattle.account.specs.declared.Position.{Position}
 use Rattle.account.specs.Head.{noAccount}
 use Rattle.head_form.specs.Alike.{Alike, SameAccount}
 use Rattle.head_form.specs.Form.{accountBytes, frontBytes, accountFrom, headFrom, placeAt, placeFormed, placesFormed, isFormed}
-use Rattle.head_form.proofs.Built.{build-at}
 use Rattle.head_form.proofs.Encoded.{account-kept, formed-facts, front-kept, place-past, place-used, places-next, zeros-kept}
-use Rattle.head_form.proofs.Parts.{both-true, length-part}
 
 -- a name's 32 bytes are the bytes that it says, and zeros
 name-zeros : (b : List ℕ) (at n : ℕ) → at + 32 ≤ length b → allZero (part b (at + n) (32 - n)) ≡ true →
@@ -84,8 +85,8 @@ module _ (b c : List ℕ) (bytesB : Bytes b) (bytesC : Bytes c) (longB : length 
   unfolding placesFormed
   places-same zero h y z s = refl
   places-same (suc n) h y z s =
-      let ofB = both-true (placesFormed b count n) (placeFormed b count n) y in
-      let ofC = both-true (placesFormed c count n) (placeFormed c count n) z in
+      let ofB = both (placesFormed b count n) (placeFormed b count n) y in
+      let ofC = both (placesFormed c count n) (placeFormed c count n) z in
       rw (
         places-next b n,
         places-next c n,
@@ -102,8 +103,8 @@ unfolding headFrom
 head-same b c bytesB bytesC y z s =
     let ofB = formed-facts b y in
     let ofC = formed-facts c z in
-    let atB = build-at (λ j. accountFrom b (placeAt j)) noAccount 32 in
-    let atC = build-at (λ j. accountFrom c (placeAt j)) noAccount 32 in
+    let atB = built-at (λ j. accountFrom b (placeAt j)) noAccount 32 in
+    let atC = built-at (λ j. accountFrom c (placeAt j)) noAccount 32 in
     let agree : (k : ℕ) → k < 32 → k < getD b 11 0 → Agree b c k = λ k h g. rw (atB k h, atC k h) at (s .each k g) in
     let front : take 32 b ≡ take 32 c =
     sym (front-kept b bytesB (omega (arith, ofB .0)) (ofB .1)) ∙ front-same (headFrom b) (headFrom c) s

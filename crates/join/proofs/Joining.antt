@@ -5,19 +5,20 @@ use mathlib.Core.Bool.{Bool, true, false, false≢true, cond, _&&_, _||_}
 use mathlib.Core.List.{List, _++_}
 use native.Mathlib.Omega.{arith}
 use lib.Dec.{eqb, leb, ltb}
-use lib.ListN.{length, drop, replicate-append-replicate}
-use lib.Seq.{sets, drop-at}
+use lib.ListN.{length}
+use lib.Seq.{sets}
 use borrow.Author.Tests.{ltb-true, ltb-false, lt-ltb, le-ltb, leb-false, eqb-true, eqb-false}
 use Rattle.octets.specs.Parts.{zeros}
 use Rattle.octets.proofs.Lists.{sets-start}
 use Rattle.octets.proofs.Stores.{length-zeros}
+use Rattle.octets.proofs.Zeros.{drop-zeros}
+use Rattle.octets.proofs.Search.{first-at, first-none}
 use Rattle.form.specs.Listings.{nameForm, amountForm}
 use Rattle.amount.specs.Amount.{tenThousandths, amountOf}
 use Rattle.amount.specs.declared.Amount.{Amount}
 use Rattle.account.specs.declared.Head.{Head}
 use Rattle.account.specs.Position.{worth}
 use Rattle.account.specs.Head.{named, placeOf, accountsOf, noAccount}
-use Rattle.account.proofs.Search.{first-at, first-none}
 use Rattle.rules.specs.declared.Answer.{Answer}
 use Rattle.rules.specs.declared.Answer.the-variants.{Done, NotInForm, OutOfShape, CapTooHigh, NameHeld, AccountsFull}
 use Rattle.rules.specs.Answers.{isDone}
@@ -27,7 +28,8 @@ use Rattle.shape.specs.Reading.{Book, accountOf}
 use Rattle.shape.specs.Shape.{shape}
 use Rattle.shape.specs.Seen.{seen}
 use Rattle.book.specs.Step.{bookOf, outcome}
-use Rattle.book.proofs.Replies.{kept, out-of-shape, not-in-form, by-rules}
+use Rattle.book.specs.Inner.{kept}
+use Rattle.book.proofs.Replies.{out-of-shape, not-in-form, by-rules}
 use Rattle.join.specs.Effect.{newAccount, withAccount, joinStep}
 use Rattle.join.specs.Inner.{nameIn, decided, joined}
 
@@ -51,18 +53,9 @@ cap-limit u m h = by (ltb 100000000000000000 u) refl
     by false e = second (eqb u 100000000000000000) refl (ltb-false 100000000000000000 u e)
 
 -- the name stored over zeros
-zeros-append : (n m : ℕ) → zeros n ++ zeros m ≡ zeros (n + m)
-unfolding zeros
-zeros-append n m = replicate-append-replicate n m 0
-
-drop-zeros : (n m : ℕ) → n ≤ m → drop n (zeros m) ≡ zeros (m - n)
-drop-zeros n m h =
-    let e : m ≡ n + (m - n) = omega arith in
-    ap (λ (k : ℕ). drop n (zeros k)) e ∙ ap (drop n) (sym (zeros-append n (m - n))) ∙ drop-at (zeros n) (zeros (m - n)) n (length-zeros n)
-
 pub name-stored : (name : List ℕ) → length name ≤ 32 → sets (zeros 32) 0 name ≡ nameIn name
 name-stored name h =
-    sets-start name (zeros 32) (omega (arith, length-zeros 32)) ∙ ap (λ (l : List ℕ). name ++ l) (drop-zeros (length name) 32 h)
+    sets-start name (zeros 32) (omega (arith, length-zeros 32)) ∙ ap (λ (l : List ℕ). name ++ l) (drop-zeros (length name) 32)
 
 -- there is an account of the name where its place is one of those in use
 pub name-held : (b : Book) (name : List ℕ) → length (accountsOf (b .head)) ≡ b .head .count →

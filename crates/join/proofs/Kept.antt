@@ -27,6 +27,7 @@ use Rattle.shape.specs.Shape.{noneTwice, total}
 use Rattle.shape.specs.Scan.{isNew}
 use Rattle.shape.specs.Sound.{SoundAccount, SoundRecord, SoundSlot, SoundEnded, Sound}
 use Rattle.shape.proofs.Names.{none-more, length-accounts, length-names}
+use Rattle.shape.proofs.Sound.{lengths-kept}
 use Rattle.book.specs.Step.{bookOf}
 use Rattle.join.specs.Effect.{newAccount, withAccount}
 use Rattle.join.proofs.Fields.{name-short}
@@ -151,14 +152,7 @@ module _
   join-sound =
       let n = b .head .count in
       record {
-        lengths = record {
-          opened = s .lengths .opened;
-          someSlots = s .lengths .someSlots;
-          fewSlots = s .lengths .fewSlots;
-          ended = s .lengths .ended;
-          somePlaces = s .lengths .somePlaces;
-          fewPlaces = s .lengths .fewPlaces;
-        };
+        lengths = lengths-kept b _ (s .lengths) refl refl refl refl;
         few = omega (arith, room);
         account = each-next SoundAccount (s .account) (new-sound name cap e l);
         once = once-next;

@@ -4,6 +4,7 @@ use mathlib.Core.Bool.{Bool, true, false, false≢true, cond, not}
 use lib.Dec.{leb, ltb}
 use lib.ListN.{length}
 use borrow.Author.Tests.{ltb-false, leb-false}
+use Rattle.octets.proofs.Tests.{both}
 use Rattle.form.specs.Listings.{nameForm, amountForm}
 use Rattle.amount.specs.Amount.{tenThousandths}
 use Rattle.account.specs.Head.{placeOf}
@@ -15,7 +16,6 @@ use Rattle.rules.specs.Rules.{highestCap, exists, rules, answerTo}
 use Rattle.shape.specs.Reading.{Book, accountOf}
 use Rattle.shape.specs.Shape.{shape}
 use Rattle.shape.specs.Seen.{seen}
-use Rattle.shape.proofs.Walk.{both}
 use Rattle.shape.proofs.Names.{length-accounts}
 use Rattle.shape.proofs.Sound.{sound, shape-of}
 use Rattle.book.specs.Step.{Outcome, bookOf}

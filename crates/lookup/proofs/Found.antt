@@ -22,12 +22,12 @@ use Rattle.shape.proofs.Sound.{sound}
 use Rattle.book.specs.declared.Place.{Place}
 use Rattle.book.specs.declared.Place.the-variants.{Opened, Ended, Nowhere}
 use Rattle.book.specs.Step.{Outcome, whereIs}
-use Rattle.book.specs.Inner.{rowAt}
+use Rattle.book.specs.Inner.{kept, rowAt}
 use Rattle.book.proofs.Replies.{out-of-shape, not-in-form, by-rules}
 use Rattle.book.proofs.Held.{held-at, opened-at, ended-at}
-use Rattle.book.proofs.Ends.{in-open, in-ended}
+use Rattle.book.proofs.Decisions.{in-open, in-ended}
 use Rattle.lookup.specs.Effect.{lookupStep, lookupPlace}
-use Rattle.lookup.specs.Inner.{kept, foundAt}
+use Rattle.lookup.specs.Inner.{foundAt}
 
 -- what the book holds under an id is the record at the place that the search gives
 module _ (b : Book) where
@@ -39,9 +39,9 @@ module _ (b : Book) where
 
   abbrev by-transfer : Option Transfer → Outcome
   by-transfer t = record {
-    answer = lookupRules (seen b) t;
-    mark = numberOr (seen b) 0 t;
-    left = cond (isDone (lookupRules (seen b) t)) b b;
+    answer = lookupRules t;
+    mark = numberOr 0 t;
+    left = cond (isDone (lookupRules t)) b b;
   }
 
   at-place : (p : Place) → by-transfer (transferAt p) ≡ foundAt b p
@@ -50,7 +50,7 @@ module _ (b : Book) where
   at-place (Ended k) = refl
   at-place Nowhere = refl
 
-  same-place : (p : Place) → cond (isDone (lookupRules (seen b) (transferAt p))) p Nowhere ≡ p
+  same-place : (p : Place) → cond (isDone (lookupRules (transferAt p))) p Nowhere ≡ p
   same-place (Opened k) = refl
   same-place (Ended k) = refl
   same-place Nowhere = refl
@@ -74,7 +74,7 @@ module _ (b : Book) (id : Text) where
     nowhere-not-in-form e = rw (s, e)
 
     module _ (e : isOf idForm id ≡ true) where
-      answer-held : answerTo (seen b) (lookup id) ≡ lookupRules (seen b) (heldTransfer b (idOf id))
+      answer-held : answerTo (seen b) (lookup id) ≡ lookupRules (heldTransfer b (idOf id))
       answer-held = rw (s, e)
 
       pub lookup-found : foundAt b (whereIs b (idOf id)) ≡ lookupStep b id
@@ -86,7 +86,7 @@ module _ (b : Book) (id : Text) where
       unfolding lookupPlace
       place-found =
           sym (ap (λ (a : Answer). cond (isDone a) (whereIs b (idOf id)) Nowhere)
-          (answer-held ∙ ap (lookupRules (seen b)) (held b (idOf id)))
+          (answer-held ∙ ap lookupRules (held b (idOf id)))
           ∙ same-place b (whereIs b (idOf id)))
 
 -- a record that was found lies in its book

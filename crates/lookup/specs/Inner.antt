@@ -1,16 +1,12 @@
 -- What the inner functions go by, once the id is in form: the record of the id, or 11; no public promise cites this.
-use Prim.Native.Nat.{ℕ}
 use Rattle.record.specs.Layout.{num, NUMBER}
 use Rattle.record.specs.Rows.{row}
-use Rattle.rules.specs.declared.Answer.{Answer}
 use Rattle.rules.specs.declared.Answer.the-variants.{Done, UnknownId}
 use Rattle.shape.specs.Reading.{Book}
 use Rattle.book.specs.Step.{Outcome}
 use Rattle.book.specs.declared.Place.{Place}
 use Rattle.book.specs.declared.Place.the-variants.{Opened, Ended, Nowhere}
-
-abbrev pub kept : Book → Answer → ℕ → Outcome
-kept b a mark = record { answer = a; mark = mark; left = b }
+use Rattle.book.specs.Inner.{kept}
 
 abbrev pub foundAt : Book → Place → Outcome
 foundAt b (Opened k) = kept b Done (num NUMBER (row (b .opened) k))

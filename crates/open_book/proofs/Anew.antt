@@ -2,17 +2,21 @@
 use Prim.Native.Nat.{ℕ, suc, _+_, _-_, _*_, _/_, _%_, _≤_, _<_}
 use mathlib.Core.Path.{_≡_, refl, ap, sym, _∙_}
 use mathlib.Core.Bool.{Bool, true, false, false≢true, cond, not, _&&_}
-use mathlib.Core.List.{List, [], _∷_, _++_}
+use mathlib.Core.List.{List, [], _∷_}
 use native.Mathlib.Omega.{arith}
 use lib.Dec.{eqb, leb}
 use lib.IntN.{pos}
-use lib.ListN.{length, getD, take, replicate-append-replicate}
-use lib.Seq.{take-at, drop-at}
+use lib.ListN.{length, getD}
 use borrow.Author.Tests.{leb-true, eqb-true}
 use Rattle.octets.specs.Lists.{sum}
 use Rattle.octets.specs.Parts.{part, zeros, allZero}
 use Rattle.octets.proofs.Equal.{zeros-zero}
 use Rattle.octets.proofs.Stores.{length-zeros}
+use Rattle.octets.proofs.Zeros.{part-zeros}
+use Rattle.octets.proofs.Tests.{both}
+use Rattle.octets.proofs.Walk.{count-sum}
+use Rattle.record.proofs.Rows.{rows-at, length-rows}
+use Rattle.record.proofs.Fields.{zero-num}
 use Rattle.rules.specs.declared.Answer.the-variants.{Done, BadLengths}
 use Rattle.rules.specs.Answers.{isDone}
 use Rattle.rules.specs.Calls.{Text}
@@ -20,24 +24,9 @@ use Rattle.rules.specs.Rules.{openRules, lengthFor}
 use Rattle.shape.specs.Reading.{Book, openRows, openCount, isTaken}
 use Rattle.shape.specs.Shape.{shape}
 use Rattle.shape.specs.Sound.{Sound, SoundSlot}
-use Rattle.shape.proofs.Walk.{both, count-sum, rows-at, length-rows, zero-num}
 use Rattle.shape.proofs.Sound.{shape-of}
 use Rattle.open_book.specs.Effect.{freshBook}
 use Rattle.open_book.proofs.Opening.{lengthsOk, few-records}
-
-zeros-append : (n m : ℕ) → zeros n ++ zeros m ≡ zeros (n + m)
-unfolding zeros
-zeros-append n m = replicate-append-replicate n m 0
-
--- a part of zeros is zeros
-part-zeros : (n at w : ℕ) → at + w ≤ n → part (zeros n) at w ≡ zeros w
-part-zeros n at w h =
-    let r = n - (at + w) in
-    let e : n ≡ at + (w + r) = omega arith in
-    ap (λ (k : ℕ). part (zeros k) at w) e
-    ∙ ap (λ (l : List ℕ). part l at w) (sym (zeros-append at (w + r)))
-    ∙ ap (take w) (drop-at (zeros at) (zeros (w + r)) at (length-zeros at) ∙ sym (zeros-append w r))
-    ∙ take-at (zeros w) (zeros r) w (length-zeros w)
 
 -- a sum of nothing
 sum-none : {A : Type 0} (f : A → ℕ) (xs : List A) (d : A) → ((k : ℕ) → k < length xs → f (getD xs k d) ≡ 0) → sum f xs ≡ 0

@@ -1,5 +1,4 @@
 pub mod Currency
-pub mod Fields
 pub mod Opening
 pub mod Anew
 pub mod Theorems

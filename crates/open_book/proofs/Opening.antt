@@ -7,14 +7,15 @@ use lib.IntN.{ℤ}
 use lib.ListN.{length}
 use lib.Dec.{eqb, leb}
 use borrow.Author.Tests.{leb-true}
+use Rattle.octets.proofs.Tests.{both}
 use Rattle.form.specs.Listings.{currencyForm, dateTimeForm}
 use Rattle.datetime.specs.Instant.{instantOf}
 use Rattle.rules.specs.declared.Answer.the-variants.{Done, NotInForm, BadLengths}
 use Rattle.rules.specs.Calls.{Text, «open», isOf}
 use Rattle.rules.specs.Rules.{lengthFor}
 use Rattle.shape.specs.Reading.{Book}
-use Rattle.shape.proofs.Walk.{both}
-use Rattle.book.proofs.Replies.{kept, not-in-form, by-rules}
+use Rattle.book.specs.Inner.{kept}
+use Rattle.book.proofs.Replies.{not-in-form, by-rules}
 use Rattle.open_book.specs.Effect.{freshBook, openStep}
 use Rattle.open_book.specs.Inner.{startedBook, started}
 

@@ -12,9 +12,12 @@ use lib.Signed.{leZ}
 use borrow.Author.Tests.{eqb-true, eqb-false, not-false}
 use Rattle.octets.specs.Lists.{count, sum}
 use Rattle.octets.specs.Parts.{same}
+use Rattle.octets.specs.Integers.{up, dn}
 use Rattle.octets.proofs.Equal.{same-equal, same-refl}
 use Rattle.octets.proofs.Integers as integers
-use Rattle.octets.proofs.Integers.{up, dn, sum-split, le-split, le-yes}
+use Rattle.octets.proofs.Integers.{sum-split, le-split, le-yes}
+use Rattle.octets.proofs.Search.{index-passes}
+use Rattle.octets.proofs.Walk.{sum-set, count-sum}
 use Rattle.account.specs.declared.Position.{Position}
 use Rattle.account.specs.Position.{worth, value, raisedBy, InRange}
 use Rattle.account.specs.Head.{nameOf, named, accountsOf, accountAt, noAccount, placeOf, withPosition}
@@ -22,9 +25,9 @@ use Rattle.account.proofs.Positions.{value-raised, held-remainder}
 use Rattle.record.specs.declared.Content.{Content}
 use Rattle.record.specs.Layout.{Row, newRow, amountOf, isFree, UNITS, REMAINDER}
 use Rattle.record.specs.Rows.{row}
-use Rattle.record.proofs.Fields.{Sized, length-new, new-state, new-payer, new-payee, new-ended-by, new-units, new-remainder, new-amount}
+use Rattle.record.proofs.Fields.{Sized, length-new, new-state, new-payer, new-payee, new-ended-by}
+use Rattle.record.proofs.Fields.{new-units, new-remainder, new-amount, zero-num}
 use Rattle.record.proofs.Rows.{length-rows, rows-at, rows-set, row-same, row-other, new-used}
-use Rattle.record.proofs.Search.{index-passes, sum-set, count-sum}
 use Rattle.rules.specs.Answers.{isDone}
 use Rattle.rules.specs.Rules.{highestCap, prepareRules}
 use Rattle.shape.specs.Reading.{Book, openRows, openCount, isTaken}
@@ -32,10 +35,9 @@ use Rattle.shape.specs.Seen.{seen}
 use Rattle.shape.specs.Shape.{shape, noneTwice, total}
 use Rattle.shape.specs.Sound.{SoundAccount, SoundSlot, Sound}
 use Rattle.shape.proofs.Names.{length-accounts}
-use Rattle.shape.proofs.Sound.{shape-of}
-use Rattle.shape.proofs.Walk.{zero-num}
+use Rattle.shape.proofs.Sound.{shape-of, lengths-kept}
 use Rattle.book.specs.declared.Decision.{Decision}
-use Rattle.book.proofs.Ends.{clash, in-open}
+use Rattle.book.proofs.Decisions.{clash, in-open}
 use Rattle.prepare.specs.Effect.{newNumber, freeSlot, raised}
 use Rattle.prepare.specs.Inner.{said, reservedBy, preparedBy}
 use Rattle.prepare.proofs.Positioned.{moved, units-of, names-kept, total-moved, accounts-kept}
@@ -169,14 +171,7 @@ module _ (b : Book) (s : Sound b) (long : length (b .head .accounts) ≡ 32) whe
 
     after-sound : Sound after
     after-sound = record {
-      lengths = record {
-        opened = length-sets (b .opened) (k * 160) new ∙ s .lengths .opened;
-        someSlots = s .lengths .someSlots;
-        fewSlots = s .lengths .fewSlots;
-        ended = s .lengths .ended;
-        somePlaces = s .lengths .somePlaces;
-        fewPlaces = s .lengths .fewPlaces;
-      };
+      lengths = lengths-kept b _ (s .lengths) refl refl (length-sets (b .opened) (k * 160) new) refl;
       few = s .few;
       account = accounts;
       once = ap noneTwice (names-kept (b .head) long (s .few) p (a .payerIs) position) ∙ s .once;

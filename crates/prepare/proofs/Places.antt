@@ -15,7 +15,7 @@ use Rattle.shape.proofs.Sound.{sound-named, sound-room}
 use Rattle.book.specs.declared.Place.the-variants.{Opened, Ended}
 use Rattle.book.specs.Step.{whereIs}
 use Rattle.book.proofs.Held.{opened-at, ended-at}
-use Rattle.book.proofs.Ends.{in-open, in-ended, held-open}
+use Rattle.book.proofs.Decisions.{in-open, in-ended, held-open}
 use Rattle.prepare.specs.Inner.{Comparable, CanRise}
 
 module _ (b : Book) (s : Sound b) where

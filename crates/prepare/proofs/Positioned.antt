@@ -10,7 +10,9 @@ use lib.Seq.{take-set-lt, map-set-same, getD-set-same, getD-set-other}
 use lib.IntN.{pos}
 use lib.Signed.{leZ, mag}
 use borrow.Author.Tests.{eqb-true, eqb-false}
-use Rattle.octets.proofs.Integers.{up, dn, sum-split}
+use Rattle.octets.specs.Integers.{up, dn}
+use Rattle.octets.proofs.Integers.{sum-split}
+use Rattle.octets.proofs.Walk.{all-each}
 use Rattle.account.specs.declared.Position.{Position}
 use Rattle.account.specs.declared.Account.{Account}
 use Rattle.account.specs.declared.Head.{Head}
@@ -24,7 +26,6 @@ use Rattle.shape.proofs.Facts.{account-ok}
 use Rattle.shape.proofs.Names.{length-accounts, account-at}
 use Rattle.shape.proofs.Sound.{units-bound}
 use Rattle.shape.proofs.Together.{few-accounts}
-use Rattle.shape.proofs.Walk.{all-each}
 
 abbrev pub moved : Account → Position → Account
 moved a p = record { name = a .name; length = a .length; cap = a .cap; position = p }

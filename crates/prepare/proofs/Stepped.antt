@@ -33,7 +33,7 @@ module _ (b : Book) (p : PrepareText) where
   }) (worth-of (tenThousandths (p .amount)))
 
   -- a call that asks for the shape, on a book of the shape
-  pub tested : shape b ≡ true → testsShape (seen b) (prepare p) && not (shape b) ≡ false
+  pub tested : shape b ≡ true → testsShape (prepare p) && not (shape b) ≡ false
   tested e = rw e
 
   pub stepped : shape b ≡ true → inForm (prepare p) ≡ true →
@@ -44,7 +44,7 @@ module _ (b : Book) (p : PrepareText) where
       ap (λ (k : Said).
       record {
         answer = prepareRules (seen b) k (p .currency);
-        mark = numberOr (seen b) (cond (isDone (prepareRules (seen b) k (p .currency))) (newNumber b) 0) (heldTransfer b (idOf (p .id)));
+        mark = numberOr (cond (isDone (prepareRules (seen b) k (p .currency))) (newNumber b) 0) (heldTransfer b (idOf (p .id)));
         left = cond (isDone (prepareRules (seen b) k (p .currency))) (reserved b p) b;
       }) said-values
       ∙ sym (by-rules b (reserved b p) (prepare p) (tested e) f)

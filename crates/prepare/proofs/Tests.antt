@@ -14,8 +14,11 @@ use mir.Val.{SFits, ofZ, toZ}
 use borrow.Author.Tests.{eqb-true, eqb-false, eq-eqb, ne-eqb, leb-true, leb-false, lt-ltb, le-ltb}
 use Rattle.octets.specs.Lists.{count}
 use Rattle.octets.specs.Parts.{same}
+use Rattle.octets.specs.Integers.{up, dn}
 use Rattle.octets.proofs.Integers as integers
 use Rattle.octets.proofs.Integers.{le-split, le-yes}
+use Rattle.octets.proofs.Tests.{both}
+use Rattle.octets.proofs.Walk.{count-more}
 use Rattle.amount.specs.declared.Amount.{Amount}
 use Rattle.account.specs.declared.Position.{Position}
 use Rattle.account.specs.Position.{worth, value, raisedBy, within}
@@ -26,7 +29,6 @@ use Rattle.record.specs.Rows.{rows}
 use Rattle.record.proofs.Rows.{length-rows, rows-at, state-of}
 use Rattle.rules.specs.Rules.{sameℤ}
 use Rattle.shape.specs.Reading.{isTaken}
-use Rattle.shape.proofs.Walk.{both, count-more}
 use Rattle.prepare.specs.Inner.{sameValues}
 
 -- amounts are equal exactly if their units and remainders are, as both remainders are below a unit
@@ -49,8 +51,8 @@ same-instant x y h k = go (eqb (ofZ w64 x) (ofZ w64 y)) (sameℤ x y) refl refl
   where
     equal : x ≡ y → sameℤ x y ≡ true
     equal e =
-        let u = ap integers.up e in
-        let d = ap integers.dn e in
+        let u = ap up e in
+        let d = ap dn e in
         rw (le-yes x y (omega arith), le-yes y x (omega arith))
 
     go : (s t : Bool) → eqb (ofZ w64 x) (ofZ w64 y) ≡ s → sameℤ x y ≡ t → s ≡ t

@@ -2,12 +2,12 @@
 use mathlib.Core.Path.{_≡_, refl, ap, sym, _∙_}
 use mathlib.Core.Bool.{Bool, true, false}
 use lib.ListN.{length}
+use Rattle.octets.proofs.Tests.{both}
 use Rattle.rules.specs.Answers.{isDone}
 use Rattle.rules.specs.Calls.{PrepareText, prepare, inForm}
 use Rattle.shape.specs.Reading.{Book}
 use Rattle.shape.specs.Shape.{shape}
 use Rattle.shape.proofs.Sound.{sound}
-use Rattle.shape.proofs.Walk.{both}
 use Rattle.book.specs.Step.{Outcome}
 use Rattle.book.proofs.Replies.{not-in-form}
 use Rattle.prepare.specs.Effect.{reserved, prepareStep}

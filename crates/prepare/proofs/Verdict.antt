@@ -13,15 +13,14 @@ use borrow.Author.Tests.{eqb-true, eqb-false, leb-true, leb-false}
 use Rattle.octets.specs.Lists.{index, count}
 use Rattle.octets.specs.Parts.{same, zeros}
 use Rattle.octets.proofs.Equal.{zero-zeros}
+use Rattle.octets.proofs.Search.{first-at, first-none, index-le, index-passes}
 use Rattle.account.specs.declared.Account.{Account}
 use Rattle.account.specs.Position.{InRange}
 use Rattle.account.specs.Head.{named, accountsOf, accountAt, noAccount, placeOf}
-use Rattle.account.proofs.Search.{first-at, first-none}
 use Rattle.record.specs.declared.Content.{Content}
 use Rattle.record.specs.Layout.{Row, isFree, newRow}
 use Rattle.record.specs.Rows.{row}
 use Rattle.record.proofs.Rows.{length-rows, rows-at, length-row}
-use Rattle.record.proofs.Search.{index-le, index-passes}
 use Rattle.rules.specs.declared.Answer.{Answer}
 use Rattle.rules.specs.declared.Answer.the-variants.{Done, NoPayer, NoPayee, PayerIsPayee, OtherCurrency}
 use Rattle.rules.specs.declared.Answer.the-variants.{Expired, OpenBookFull, NoPlaceLeft, CapPassed}
@@ -35,7 +34,7 @@ use Rattle.shape.proofs.Names.{length-accounts, account-at}
 use Rattle.book.specs.declared.Decision.{Decision}
 use Rattle.book.specs.Step.{Outcome}
 use Rattle.book.specs.Inner.{resent}
-use Rattle.book.proofs.Ends.{clash, not-resent, in-open}
+use Rattle.book.proofs.Decisions.{clash, not-resent, in-open}
 use Rattle.prepare.specs.Effect.{newNumber, freeSlot, raised}
 use Rattle.prepare.specs.Inner.{said, partyRules, passes, freshRules, onNone, onId, CanReserve, reservedBy, preparedBy}
 use Rattle.prepare.proofs.Places.{rises}
@@ -173,7 +172,7 @@ module _ (b : Book) (s : Sound b) (long : length (b .head .accounts) ≡ 32) whe
 
     -- the mark
     mark-by : (r : Option Row) → decision r .mark
-        ≡ numberOr (seen b) (cond (isDone (decision r .answer)) (newNumber b) 0) (mapSome (transferOf (namesOf (b .head))) r)
+        ≡ numberOr (cond (isDone (decision r .answer)) (newNumber b) 0) (mapSome (transferOf (namesOf (b .head))) r)
     unfolding onNone transferOf
     mark-by none = refl
     mark-by (some r) = refl
@@ -182,7 +181,7 @@ module _ (b : Book) (s : Sound b) (long : length (b .head .accounts) ≡ 32) whe
     unfolding preparedBy
     mark-is =
         mark-by (heldRow b (c .id))
-        ∙ ap (λ (a : Answer). numberOr (seen b) (cond (isDone a) (newNumber b) 0) (heldTransfer b (c .id))) answer-is
+        ∙ ap (λ (a : Answer). numberOr (cond (isDone a) (newNumber b) 0) (heldTransfer b (c .id))) answer-is
 
     -- what an answer 0 tells
     free-left : openCount b < b .head .slots → freeSlot b < b .head .slots

@@ -168,6 +168,6 @@ preparedBy b payer payee currency c =
     let a = prepareRules (seen b) (said payer payee c) currency in
     record {
       answer = a;
-      mark = numberOr (seen b) (cond (isDone a) (newNumber b) 0) (heldTransfer b (c .id));
+      mark = numberOr (cond (isDone a) (newNumber b) 0) (heldTransfer b (c .id));
       left = cond (isDone a) (reservedBy b payer payee c) b;
     }

@@ -1,53 +1,39 @@
 -- Fields of a record: what one reads after settings; every field of a new record, and of an ended one.
-use Prim.Native.Nat.{ℕ, zero, suc, _+_, _*_, _/_, _%_, _^_, _<_, _≤_}
+use Prim.Native.Nat.{ℕ, _+_, _*_, _^_, _<_, _≤_}
 use mathlib.Core.Path.{_≡_, refl, ap, ap₂, sym, _∙_}
 use mathlib.Core.Bool.{Bool, true, false, cond, _&&_, _||_}
 use mathlib.Core.List.{List, [], _∷_}
 use native.Mathlib.Omega.{arith}
-use native.Mathlib.Nat.{add-mul, mul-assoc, add-assoc, mod-eq-of-lt, pow-suc}
 use lib.Dec.{eqb, leb}
 use lib.ListN.{length, getD}
-use lib.Pow.{mod-pow-add, pow-add}
 use lib.Seq.{sets, length-sets, drop-cons}
 use mir.Facts.{toZ-ofZ, fits-ofZ}
 use mir.Syntax.{w64}
 use mir.Val.{SFits, ofZ, toZ}
 use borrow.Author.Tests.{eqb-true, leb-true}
 use Rattle.octets.specs.Numbers.{number, numberFrom, bigEndian}
-use Rattle.octets.specs.Parts.{part, zeros}
+use Rattle.octets.specs.Parts.{part, zeros, allZero}
 use Rattle.octets.proofs.Numbers.{length-bigEndian}
 use Rattle.octets.proofs.Stores.{length-zeros}
-use Rattle.record.specs.Layout.{Row, Field, bytes, get, num, Setting, _≔_, with, newRow, endedRow, expirationOf, amountOf}
+use Rattle.octets.proofs.Round.{number-of-bytes}
+use Rattle.octets.proofs.Zeros.{zero-part}
+use Rattle.octets.proofs.Tests.{and-left, and-right}
+use Rattle.octets.proofs.Parts.{length-part, part-stored, part-before, part-behind}
+use Rattle.record.specs.Layout.{Row, Field, bytes, get, num, Setting, with}
+use Rattle.record.specs.Layout.{accepted, newRow, ending, endedRow, expirationOf, amountOf}
 use Rattle.record.specs.Layout.{ID, STATE, PAYER, PAYEE, ENDED-BY, CODE, REMAINDER, UNITS}
 use Rattle.record.specs.Layout.{EXPIRATION, CONDITION, FULFILMENT, PACKET, NUMBER}
 use Rattle.record.specs.declared.Content.{Content}
-use Rattle.record.proofs.Search.{and-left, and-right}
-use Rattle.record.proofs.Stores.{length-part, part-stored, part-before, part-behind}
-
--- a number written in w bytes reads back, as far as w bytes hold it
-read-back : (w n x : ℕ) → numberFrom n (bigEndian w x) ≡ n * 2 ^ (8 * w) + x % 2 ^ (8 * w)
-unfolding numberFrom bigEndian
-read-back zero n x = omega arith
-read-back (suc w) n x =
-    let k = 8 * w in
-    let e : 8 * suc w ≡ 8 + k = omega arith in
-    let d = x / 2 ^ k % 2 ^ 8 in
-    read-back w (n * 256 + d) x ∙ rw (e, mod-pow-add x 8 k, pow-add 2 8 k) (regroup n d (2 ^ k) (x % 2 ^ k))
-  where
-    regroup : (n d p m : ℕ) → (n * 256 + d) * p + m ≡ n * (256 * p) + (d * p + m)
-    regroup n d p m = simp (add-mul, mul-assoc, add-assoc)
-
-bits : (w : ℕ) → 256 ^ w ≡ 2 ^ (8 * w)
-bits zero = refl
-bits (suc w) = let e : 8 * suc w ≡ 8 * w + 8 = omega arith in rw (pow-suc, bits w, e, pow-add 2 (8 * w) 8)
-
-pub number-bigEndian : (w x : ℕ) → x < 256 ^ w → number (bigEndian w x) ≡ x
-number-bigEndian w x h = read-back w 0 x ∙ omega (arith, mod-eq-of-lt (rw (bits w) at h))
 
 -- a field of one byte
 pub num-byte : (at : ℕ) (r : Row) → at < length r → num (bytes at 1) r ≡ getD r at 0
 unfolding get numberFrom
 num-byte at r h = rw (drop-cons r at 0 h) (omega arith)
+
+-- a field of a record that is zero
+pub zero-num : (f : Field) (r : Row) → allZero r ≡ true → num f r ≡ 0
+unfolding get
+zero-num f r e = zero-part r (f .start) (f .width) e
 
 pub length-get : (f : Field) (r : Row) → f .start + f .width ≤ length r → length (get f r) ≡ f .width
 unfolding get
@@ -128,25 +114,6 @@ pub record Sized (c : Content) : Type 0 where
   pub condition : length (c .condition) ≡ 32
   pub packet : length (c .packet) ≡ 32
 
--- the settings of a new record, and of an ended one
-abbrev accepted : Content → ℕ → ℕ → ℕ → List Setting
-accepted c payer payee n =
-    (ID ≔ c .id)
-    ∷ (STATE ≔ (2 ∷ []))
-    ∷ (PAYER ≔ (payer ∷ []))
-    ∷ (PAYEE ≔ (payee ∷ []))
-    ∷ (REMAINDER ≔ bigEndian 2 (c .amount .remainder))
-    ∷ (UNITS ≔ bigEndian 8 (c .amount .units))
-    ∷ (EXPIRATION ≔ bigEndian 8 (ofZ w64 (c .expiration)))
-    ∷ (CONDITION ≔ c .condition)
-    ∷ (PACKET ≔ c .packet)
-    ∷ (NUMBER ≔ bigEndian 4 n)
-    ∷ []
-
-abbrev ending : ℕ → ℕ → ℕ → List ℕ → List Setting
-ending state by code fulfilment =
-    (STATE ≔ (state ∷ [])) ∷ (ENDED-BY ≔ (by ∷ [])) ∷ (CODE ≔ bigEndian 2 code) ∷ (FULFILMENT ≔ fulfilment) ∷ []
-
 -- what the record of an accepted prepare reads, field by field
 module _ (c : Content) (payer payee n : ℕ) where
   pub length-new : length (newRow c payer payee n) ≡ 160
@@ -184,10 +151,10 @@ module _ (c : Content) (payer payee n : ℕ) where
     new-code = ap number (new CODE refl)
 
     pub new-remainder : c .amount .remainder < 2 ^ 16 → num REMAINDER (newRow c payer payee n) ≡ c .amount .remainder
-    new-remainder h = ap number (new REMAINDER refl) ∙ number-bigEndian 2 (c .amount .remainder) h
+    new-remainder h = ap number (new REMAINDER refl) ∙ number-of-bytes 2 (c .amount .remainder) h
 
     pub new-units : c .amount .units < 2 ^ 64 → num UNITS (newRow c payer payee n) ≡ c .amount .units
-    new-units h = ap number (new UNITS refl) ∙ number-bigEndian 8 (c .amount .units) h
+    new-units h = ap number (new UNITS refl) ∙ number-of-bytes 8 (c .amount .units) h
 
     pub new-amount : c .amount .units < 2 ^ 64 → c .amount .remainder < 2 ^ 16 →
         amountOf (newRow c payer payee n) ≡ c .amount .units * 10000 + c .amount .remainder
@@ -196,7 +163,7 @@ module _ (c : Content) (payer payee n : ℕ) where
     pub new-expiration : SFits w64 (c .expiration) → expirationOf (newRow c payer payee n) ≡ c .expiration
     new-expiration f =
         ap (λ (l : List ℕ). toZ w64 (number l)) (new EXPIRATION refl)
-        ∙ ap (toZ w64) (number-bigEndian 8 (ofZ w64 (c .expiration)) (fits-ofZ f .fits)) ∙ toZ-ofZ f
+        ∙ ap (toZ w64) (number-of-bytes 8 (ofZ w64 (c .expiration)) (fits-ofZ f .fits)) ∙ toZ-ofZ f
 
     pub new-condition : get CONDITION (newRow c payer payee n) ≡ c .condition
     new-condition = new CONDITION refl
@@ -209,7 +176,7 @@ module _ (c : Content) (payer payee n : ℕ) where
     new-packet = new PACKET refl
 
     pub new-number : n < 2 ^ 32 → num NUMBER (newRow c payer payee n) ≡ n
-    new-number h = ap number (new NUMBER refl) ∙ number-bigEndian 4 n h
+    new-number h = ap number (new NUMBER refl) ∙ number-of-bytes 4 n h
 
 -- what an ended record reads: four fields anew, and any field g apart from them as before, by `ended g refl`
 module _ (state by code : ℕ) (fulfilment : List ℕ) (r : Row) where
@@ -232,7 +199,7 @@ module _ (state by code : ℕ) (fulfilment : List ℕ) (r : Row) where
     ended-by = ap number (ended ENDED-BY refl) ∙ omega arith
 
     pub ended-code : code < 2 ^ 16 → num CODE (endedRow state by code fulfilment r) ≡ code
-    ended-code h = ap number (ended CODE refl) ∙ number-bigEndian 2 code h
+    ended-code h = ap number (ended CODE refl) ∙ number-of-bytes 2 code h
 
     pub ended-fulfilment : get FULFILMENT (endedRow state by code fulfilment r) ≡ fulfilment
     ended-fulfilment = ended FULFILMENT refl

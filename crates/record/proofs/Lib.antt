@@ -1,4 +1,2 @@
-pub mod Search
-pub mod Stores
 pub mod Fields
 pub mod Rows

@@ -15,13 +15,12 @@ use Rattle.octets.specs.Numbers.{numberFrom}
 use Rattle.octets.specs.Parts.{part, same, zeros}
 use Rattle.octets.proofs.Lists.{sets-start}
 use Rattle.octets.proofs.Stores.{length-zeros}
+use Rattle.octets.proofs.Search.{index-hit, index-miss, index-done}
+use Rattle.octets.proofs.Parts.{length-part, take-sets, drop-sets-add, part-stored, part-before, part-behind, part-home, sets-over}
 use Rattle.record.specs.Layout.{Row, get, num, ID, STATE, isFree, newRow}
 use Rattle.record.specs.declared.Content.{Content}
 use Rattle.record.specs.Rows.{rows, row, holds}
 use Rattle.record.proofs.Fields.{num-byte, Sized, new-state}
-use Rattle.record.proofs.Search.{index-hit, index-miss, index-done}
-use Rattle.record.proofs.Stores.{length-part, take-sets, drop-sets-add, part-stored, part-before, part-behind}
-use Rattle.record.proofs.Stores.{part-home, sets-over}
 
 pub length-rows : (n : ℕ) (b : List ℕ) → length (rows n b) ≡ n
 length-rows zero b = refl

@@ -94,8 +94,8 @@ abbrev pub isFree : Row → Bool
 isFree r = eqb (num STATE r) 0
 
 -- the record of an accepted prepare: RESERVED, ended by nothing, no code, no fulfilment
-unfoldable pub newRow : Content → ℕ → ℕ → ℕ → Row
-newRow c payer payee n = with (
+abbrev pub accepted : Content → ℕ → ℕ → ℕ → List Setting
+accepted c payer payee n =
     (ID ≔ c .id)
     ∷ (STATE ≔ (2 ∷ []))
     ∷ (PAYER ≔ (payer ∷ []))
@@ -106,13 +106,19 @@ newRow c payer payee n = with (
     ∷ (CONDITION ≔ c .condition)
     ∷ (PACKET ≔ c .packet)
     ∷ (NUMBER ≔ bigEndian 4 n)
-    ∷ []) (zeros 160)
+    ∷ []
+
+unfoldable pub newRow : Content → ℕ → ℕ → ℕ → Row
+newRow c payer payee n = with (accepted c payer payee n) (zeros 160)
 
 -- "An ended record moves .., with bytes 16, 19, 20-21 and 72-103 set anew as below and the rest kept"
-unfoldable pub endedRow : ℕ → ℕ → ℕ → List ℕ → Row → Row
-endedRow state by code fulfilment r = with (
+abbrev pub ending : ℕ → ℕ → ℕ → List ℕ → List Setting
+ending state by code fulfilment =
     (STATE ≔ (state ∷ []))
     ∷ (ENDED-BY ≔ (by ∷ []))
     ∷ (CODE ≔ bigEndian 2 code)
     ∷ (FULFILMENT ≔ fulfilment)
-    ∷ []) r
+    ∷ []
+
+unfoldable pub endedRow : ℕ → ℕ → ℕ → List ℕ → Row → Row
+endedRow state by code fulfilment r = with (ending state by code fulfilment) r

@@ -115,6 +115,26 @@ abbrev pub payeeRules : Option Transfer → List ℕ → (Transfer → Answer) �
 payeeRules none sender byState = UnknownId
 payeeRules (some t) sender byState = cond (same (t .content .payee) sender) (byState t) NotThePayee
 
+-- "Lookup: 21, 1, 11."
+abbrev pub lookupRules : Option Transfer → Answer
+lookupRules none = UnknownId
+lookupRules (some t) = Done
+
+-- "Every call but open tests this first."
+abbrev pub testsShape : Call → Bool
+testsShape («open» currency instant o f) = false
+testsShape (join name cap) = true
+testsShape (prepare p) = true
+testsShape (fulfil sender id fulfilment) = true
+testsShape (abort sender id code) = true
+testsShape (time instant places) = true
+testsShape (lookup id) = true
+
+-- the acceptance number of a transfer that a book holds; else n
+abbrev pub numberOr : ℕ → Option Transfer → ℕ
+numberOr n none = n
+numberOr n (some t) = t .number
+
 module _ (v : View) where
   -- "15 if below book time; 16 if the lent list has fewer places than transfers to expire"
   abbrev pub timeRules : ℤ → ℕ → Answer
@@ -122,11 +142,6 @@ module _ (v : View) where
       (ltZ t (v .clock) gives ClockGoesBack)
       ∷ (ltb places (length (v .due t)) gives ListTooShort)
       ∷ []) Done
-
-  -- "Lookup: 21, 1, 11."
-  abbrev pub lookupRules : Option Transfer → Answer
-  lookupRules none = UnknownId
-  lookupRules (some t) = Done
 
   -- the rules that follow 21 and 1
   abbrev pub rules : Call → Answer
@@ -139,26 +154,11 @@ module _ (v : View) where
   rules (time instant places) = timeRules (instantOf instant) places
   rules (lookup id) = lookupRules (v .held (idOf id))
 
-  -- "Every call but open tests this first."
-  abbrev pub testsShape : Call → Bool
-  testsShape («open» currency instant o f) = false
-  testsShape (join name cap) = true
-  testsShape (prepare p) = true
-  testsShape (fulfil sender id fulfilment) = true
-  testsShape (abort sender id code) = true
-  testsShape (time instant places) = true
-  testsShape (lookup id) = true
-
   abbrev pub answerTo : Call → Answer
   answerTo c = firstOf (
       ((testsShape c && not (v .shaped)) gives OutOfShape)
       ∷ (not (inForm c) gives NotInForm)
       ∷ []) (rules c)
-
-  -- the acceptance number of a transfer that a book holds; else n
-  abbrev pub numberOr : ℕ → Option Transfer → ℕ
-  numberOr n none = n
-  numberOr n (some t) = t .number
 
   -- "the acceptance number of the transfer if a book holds its id after the call, for time the count of transfers it expired, else 0";
   -- "A new acceptance number is one more than the records in both books"

@@ -64,37 +64,41 @@ pub fn number_of(a: Answer) -> u16
     }
 }
 
+// The codes, in the order of the numbers.
+const CODES: [u16; 25] = [
+    0,
+    3101,
+    3202,
+    3203,
+    3100,
+    3100,
+    3106,
+    3303,
+    2005,
+    2003,
+    4001,
+    3208,
+    3100,
+    3100,
+    3100,
+    0,
+    0,
+    0,
+    0,
+    0,
+    0,
+    2001,
+    0,
+    0,
+    0,
+];
+
 // The API's error code of an answer.
 pub fn code_of(a: Answer) -> u16
     ensures { λ r. ⌜ r ≡ code a ⌝ }
 {
-    match a {
-        Answer::Done => 0,
-        Answer::NotInForm => 3101,
-        Answer::NoPayer => 3202,
-        Answer::NoPayee => 3203,
-        Answer::PayerIsPayee => 3100,
-        Answer::OtherCurrency => 3100,
-        Answer::OtherContent => 3106,
-        Answer::Expired => 3303,
-        Answer::OpenBookFull => 2005,
-        Answer::NoPlaceLeft => 2003,
-        Answer::CapPassed => 4001,
-        Answer::UnknownId => 3208,
-        Answer::NotThePayee => 3100,
-        Answer::EndedAnotherWay => 3100,
-        Answer::NoMatch => 3100,
-        Answer::ClockGoesBack => 0,
-        Answer::ListTooShort => 0,
-        Answer::NameHeld => 0,
-        Answer::AccountsFull => 0,
-        Answer::CapTooHigh => 0,
-        Answer::BadLengths => 0,
-        Answer::OutOfShape => 2001,
-        Answer::OutsideYears => 0,
-        Answer::NoRoom => 0,
-        Answer::Resend => 0,
-    }
+    let codes = CODES;
+    codes[number_of(a) as usize]
 }
 
 // Whether a call with this answer writes: "All but 0 change nothing lent and no state".

@@ -1,5 +1,5 @@
 -- The positions together: what they sum to by their parts, and why a sum beyond the pass's limits is not the open amounts.
-use Prim.Native.Nat.{ℕ, _+_, _*_, _/_, _%_, _<_, _≤_, _^_}
+use Prim.Native.Nat.{ℕ, _+_, _*_, _/_, _%_, _<_, _≤_}
 use mathlib.Core.Path.{_≡_, refl, ap, sym, _∙_}
 use mathlib.Core.Bool.{Bool, true, false, cond, _&&_}
 use mathlib.Core.List.{List, [], _∷_}
@@ -7,25 +7,24 @@ use native.Mathlib.Omega.{arith}
 use lib.Dec.{eqb, leb, ltb}
 use lib.ListN.{length, take, getD}
 use lib.Seq.{take-all}
-use lib.IntN.{ℤ, pos, negsuc, _+ℤ_, _*ℤ_}
-use lib.Signed.{leZ, ltZ, mag}
-use mir.Syntax.{w64}
-use mir.Val.{ofZ}
+use lib.IntN.{ℤ, pos}
+use lib.Signed.{leZ}
 use borrow.Author.Tests.{eqb-true, eqb-false, eq-eqb, ne-eqb, ltb-true, ltb-false, le-leb, lt-leb, leb-true, leb-false}
 use Rattle.octets.specs.Lists.{all, sum}
-use Rattle.octets.proofs.Equal.{and-false}
-use Rattle.octets.proofs.Integers.{up, dn, sum-split, mul-split, le-yes, le-no}
+use Rattle.octets.specs.Integers.{up, dn}
+use Rattle.octets.proofs.Integers.{sum-split, le-yes, le-no}
+use Rattle.octets.proofs.Tests.{and-false, both}
+use Rattle.octets.proofs.Walk.{sum-more, sum-part}
 use Rattle.account.specs.declared.Account.{Account}
-use Rattle.account.specs.declared.Position.{Position}
 use Rattle.account.specs.Position.{value}
 use Rattle.account.specs.Head.{noAccount}
+use Rattle.account.proofs.Positions.{value-split}
 use Rattle.record.specs.Layout.{Row, num, amountOf, REMAINDER, UNITS}
 use Rattle.rules.specs.Rules.{highestCap, sameℤ}
 use Rattle.shape.specs.declared.balance.Sums.{Sums}
 use Rattle.shape.specs.Shape.{accountOk, total}
-use Rattle.shape.specs.Scan.{above, below, aboveOf, belowOf, restOf, mostReserved, mostBelow, sumsOf}
+use Rattle.shape.specs.Scan.{aboveOf, belowOf, restOf, mostReserved, mostBelow, sumsOf}
 use Rattle.shape.specs.Sound.{SoundAccount}
-use Rattle.shape.proofs.Walk.{both, sum-more, sum-part}
 use Rattle.shape.proofs.Facts.{account-sound, position-most}
 
 -- the test of equality, told by the parts
@@ -38,16 +37,6 @@ module _ (z : ℤ) (n : ℕ) where
 
   pub same-more : n + dn z < up z → sameℤ z (pos n) ≡ false
   same-more h = rw (le-no z (pos n) (omega arith))
-
--- a position by its parts
-value-by : (z : ℤ) (remainder : ℕ) →
-    up (z *ℤ pos 10000 +ℤ pos remainder) + below z * 10000 ≡ above z * 10000 + remainder + dn (z *ℤ pos 10000 +ℤ pos remainder)
-value-by (pos n) remainder = omega (arith, mul-split 10000 (pos n), sum-split (pos n *ℤ pos 10000) (pos remainder))
-value-by (negsuc n) remainder = omega (arith, mul-split 10000 (negsuc n), sum-split (negsuc n *ℤ pos 10000) (pos remainder))
-
-pub value-split : (p : Position) → up (value p) + below (p .units) * 10000 ≡ above (p .units) * 10000 + p .remainder + dn (value p)
-unfolding value
-value-split p = value-by (p .units) (p .remainder)
 
 -- all positions by their parts
 pub total-split : (xs : List Account) → up (total xs) + sum belowOf xs * 10000 ≡ sum aboveOf xs * 10000 + sum restOf xs + dn (total xs)
@@ -193,20 +182,3 @@ module _ (xs : List Account) (s : Sums) (e : s ≡ sumsOf xs) where
 pub amounts-split : (rs : List Row) → sum amountOf rs ≡ sum (num UNITS) rs * 10000 + sum (num REMAINDER) rs
 amounts-split [] = refl
 amounts-split (r ∷ rs) = omega (arith, amounts-split rs)
-
--- how far a number lies above zero and below, by its bits
-pub above-negative : (z : ℤ) → ltZ z (pos 0) ≡ true → 0 ≡ above z
-above-negative (pos a) h = let g : a < 0 = ltb-true a 0 h in absurd (omega arith)
-above-negative (negsuc a) h = refl
-
-pub above-bits : (z : ℤ) → ltZ z (pos 0) ≡ false → ofZ w64 z ≡ above z
-above-bits (pos a) h = refl
-above-bits (negsuc a) h = let e : _≡_ {A = ℕ} 0 1 = cc in absurd (omega arith)
-
-pub below-none : (z : ℤ) → ltZ z (pos 0) ≡ false → 0 ≡ below z
-below-none (pos a) h = refl
-below-none (negsuc a) h = let e : _≡_ {A = ℕ} 0 1 = cc in absurd (omega arith)
-
-pub below-bits : (z : ℤ) → ltZ z (pos 0) ≡ true → mag z < 2 ^ 63 → (ofZ w64 z + below z ≡ 2 ^ 64) × (0 < below z) × (below z ≤ 2 ^ 63)
-below-bits (pos a) t h = let g : a < 0 = ltb-true a 0 t in absurd (omega arith)
-below-bits (negsuc a) t h = (omega arith, omega arith, omega arith)

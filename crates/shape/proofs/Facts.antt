@@ -10,8 +10,9 @@ use lib.IntN.{ℤ, pos, negsuc, _+ℤ_, _*ℤ_}
 use lib.Signed.{leZ}
 use borrow.Author.Tests.{ltb-true, ltb-false, leb-true, eqb-true, eqb-false, lt-ltb, le-leb, lt-leb, eq-eqb, ne-eqb, not-true}
 use Rattle.octets.specs.Parts.{allZero}
-use Rattle.octets.proofs.Equal.{and-false}
+use Rattle.octets.specs.Integers.{up}
 use Rattle.octets.proofs.Integers.{le-yes, mul-split, sum-split}
+use Rattle.octets.proofs.Tests.{and-false, or-true, both, either}
 use Rattle.form.specs.Listings.{nameForm}
 use Rattle.account.specs.declared.Account.{Account}
 use Rattle.account.specs.Position.{worth, value}
@@ -21,9 +22,8 @@ use Rattle.rules.specs.Calls.{isOf}
 use Rattle.rules.specs.Rules.{highestCap}
 use Rattle.shape.specs.Reading.{Book}
 use Rattle.shape.specs.Shape.{lengthsOk, accountOk, recordOk, openOk, endedOk}
-use Rattle.shape.specs.Scan.{above, reservedOk}
+use Rattle.shape.specs.Scan.{reservedOk}
 use Rattle.shape.specs.Sound.{SoundAccount, SoundRecord, SoundReserved, SoundSlot, SoundEnded, SoundLengths}
-use Rattle.shape.proofs.Walk.{both}
 
 -- at most 10^17 units, told by the units and the remainder
 module _ (units remainder : ℕ) where
@@ -55,7 +55,7 @@ module _ (units remainder : ℕ) where
 
 -- a position is at most as much where the units above zero are
 pub position-told : (z : ℤ) (remainder : ℕ) →
-    leb (above z * 10000 + remainder) highestCap && ltb remainder 10000
+    leb (up z * 10000 + remainder) highestCap && ltb remainder 10000
     ≡ leZ (z *ℤ pos 10000 +ℤ pos remainder) (pos highestCap) && ltb remainder 10000
 position-told (pos n) remainder = refl
 position-told (negsuc n) remainder = go (ltb remainder 10000) refl
@@ -107,14 +107,14 @@ module _ (a : Account) where
       rw (le-leb _ _ (s .short), s .name, le-leb _ _ (s .cap), lt-ltb _ _ (s .capRemainder), s .position, lt-ltb _ _ (s .remainder))
 
   -- the units above zero of a position
-  pub position-most : SoundAccount a → above (a .position .units) * 10000 + a .position .remainder ≤ highestCap
+  pub position-most : SoundAccount a → up (a .position .units) * 10000 + a .position .remainder ≤ highestCap
   unfolding value
   position-most s =
       let units = a .position .units in
       let remainder = a .position .remainder in
-      let p : leb (above units * 10000 + remainder) highestCap && ltb remainder 10000 ≡ true =
+      let p : leb (up units * 10000 + remainder) highestCap && ltb remainder 10000 ≡ true =
       position-told units remainder ∙ rw (s .position, lt-ltb remainder 10000 (s .remainder)) in
-      leb-true _ _ (both (leb (above units * 10000 + remainder) highestCap) (ltb remainder 10000) p .0)
+      leb-true _ _ (both (leb (up units * 10000 + remainder) highestCap) (ltb remainder 10000) p .0)
 
 -- a record
 module _ (accounts : ℕ) (r : Row) where
@@ -179,14 +179,6 @@ slot-ok accounts r s = go (isFree r) refl
     go false e = slot-taken accounts r e ∙ reserved-ok accounts r (s .taken e)
 
 -- a finished record
-either : (a b : Bool) → a || b ≡ true → (a ≡ true) ⊎ (b ≡ true)
-either true b e = inl refl
-either false b e = inr e
-
-or-true : (b : Bool) → b || true ≡ true
-or-true true = refl
-or-true false = refl
-
 module _ (accounts : ℕ) (r : Row) where
   abbrev fulfilled : Bool
   fulfilled = eqb (num STATE r) 3 && eqb (num ENDED-BY r) 1

@@ -1,4 +1,3 @@
-pub mod Walk
 pub mod Facts
 pub mod Bounds
 pub mod Names

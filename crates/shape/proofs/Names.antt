@@ -9,13 +9,13 @@ use lib.ListN.{length, take, drop, getD, take-append-drop, List·getD-map, lengt
 use lib.Seq.{take-suc, getD-take, length-take-le}
 use Rattle.octets.specs.Lists.{all}
 use Rattle.octets.specs.Parts.{same}
-use Rattle.octets.proofs.Equal.{and-false}
+use Rattle.octets.proofs.Tests.{and-false}
+use Rattle.octets.proofs.Walk.{all-append}
 use Rattle.account.specs.declared.Head.{Head}
 use Rattle.account.specs.Head.{nameOf, accountsOf, accountAt, noAccount}
 use Rattle.shape.specs.Reading.{namesOf}
 use Rattle.shape.specs.Shape.{noneTwice}
 use Rattle.shape.specs.Scan.{isNew}
-use Rattle.shape.proofs.Walk.{all-append}
 
 regroup : (a b c d : Bool) → (a && (b && true)) && (c && d) ≡ (a && c) && (b && d)
 regroup true true c d = refl

@@ -9,13 +9,14 @@ use lib.Seq.{take-all}
 use borrow.Author.Tests.{le-leb, lt-leb}
 use Rattle.octets.specs.Lists.{all, count, sum}
 use Rattle.octets.specs.Parts.{allZero}
-use Rattle.octets.proofs.Equal.{and-false}
+use Rattle.octets.proofs.Tests.{and-false}
+use Rattle.octets.proofs.Walk.{all-more, all-fails, sum-more, sum-part, count-more}
 use Rattle.record.specs.Layout.{Row, num, isFree, REMAINDER, UNITS}
+use Rattle.record.proofs.Fields.{zero-num}
 use Rattle.shape.specs.declared.records.Held.{Held}
 use Rattle.shape.specs.Reading.{isTaken}
 use Rattle.shape.specs.Shape.{openOk}
 use Rattle.shape.specs.Scan.{reservedOk, heldInSlot, heldInBook, notOk, mostReserved}
-use Rattle.shape.proofs.Walk.{all-more, all-fails, sum-more, sum-part, count-more, zero-num}
 use Rattle.shape.proofs.Facts.{slot-free, slot-taken, reserved-sound}
 
 -- what a slot holds where it is of the shape

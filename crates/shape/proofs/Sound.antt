@@ -11,19 +11,22 @@ use lib.Signed.{leZ, mag}
 use borrow.Author.Tests.{leb-true, le-leb}
 use Rattle.octets.specs.Lists.{all, count, sum}
 use Rattle.octets.specs.Parts.{allZero}
-use Rattle.octets.proofs.Integers.{up, dn, same, le-split}
+use Rattle.octets.specs.Integers.{up, dn}
+use Rattle.octets.proofs.Integers.{same, le-split}
+use Rattle.octets.proofs.Tests.{both}
+use Rattle.octets.proofs.Walk.{all-at, all-each, sum-at, count-some}
 use Rattle.amount.specs.declared.Amount.{Amount}
 use Rattle.account.specs.declared.Account.{Account}
 use Rattle.account.specs.Position.{Room, InRange}
 use Rattle.account.specs.Head.{accountsOf, accountAt, noAccount, Named}
 use Rattle.record.specs.Layout.{Row, num, amountOf, isFree, REMAINDER, UNITS}
 use Rattle.record.specs.Rows.{rows, row}
+use Rattle.record.proofs.Rows.{length-rows, rows-at}
 use Rattle.rules.specs.Rules.{highestCap, sameℤ}
 use Rattle.shape.specs.Reading.{Book, namesOf, openRows, endedRows, openCount, isTaken}
 use Rattle.shape.specs.Shape.{shape, lengthsOk, accountOk, noneTwice, openOk, endedOk, total}
-use Rattle.shape.specs.Scan.{accountsOk, openBookOk, endedBookOk, above, below, belowOf}
-use Rattle.shape.specs.Sound.{SoundRecord, Sound}
-use Rattle.shape.proofs.Walk.{both, all-at, all-each, sum-at, count-some, length-rows, rows-at}
+use Rattle.shape.specs.Scan.{accountsOk, openBookOk, endedBookOk, belowOf}
+use Rattle.shape.specs.Sound.{SoundRecord, SoundLengths, Sound}
 use Rattle.shape.proofs.Facts.{account-sound, account-ok, position-most, lengths-sound, lengths-ok}
 use Rattle.shape.proofs.Facts.{slot-sound, slot-ok, ended-sound, ended-ok}
 use Rattle.shape.proofs.Names.{length-accounts, account-at}
@@ -50,7 +53,7 @@ module _ (q : Row → Bool) (n : ℕ) (book : List ℕ) where
       ap q (rows-at n k book [] l) ∙ e k l)
 
 -- no position is so low that an amount could not be taken from it within 64 bits: all sum to no less than 0, and none is above 10^17 units
-mag-by : (z : ℤ) (n : ℕ) → above z < n → below z ≤ n → mag z < n
+mag-by : (z : ℤ) (n : ℕ) → up z < n → dn z ≤ n → mag z < n
 mag-by (pos a) n h k = h
 mag-by (negsuc a) n h k = omega arith
 
@@ -137,3 +140,15 @@ module _ (b : Book) where
 pub sound-amount : (accounts : ℕ) (r : Row) (a : Amount) → SoundRecord accounts r →
     a .units ≡ num UNITS r → a .remainder ≡ num REMAINDER r → InRange a
 sound-amount accounts r a s e f = record { units = rw e (s .units); remainder = rw f (s .remainder) }
+
+-- books as long as they were, of as many slots and places
+pub lengths-kept : (b c : Book) → SoundLengths b → c .head .slots ≡ b .head .slots → c .head .places ≡ b .head .places →
+    length (c .opened) ≡ length (b .opened) → length (c .ended) ≡ length (b .ended) → SoundLengths c
+lengths-kept b c s e f o n = record {
+  opened = omega (arith, e, o, s .opened);
+  someSlots = omega (arith, e, s .someSlots);
+  fewSlots = omega (arith, e, s .fewSlots);
+  ended = omega (arith, f, n, s .ended);
+  somePlaces = omega (arith, f, s .somePlaces);
+  fewPlaces = omega (arith, f, s .fewPlaces);
+}

@@ -10,7 +10,8 @@ use lib.IntN.{pos}
 use borrow.Author.Tests.{leb-true, leb-false}
 use Rattle.octets.specs.Lists.{all, count, sum}
 use Rattle.octets.specs.Parts.{allZero}
-use Rattle.octets.proofs.Equal.{and-true, and-false}
+use Rattle.octets.proofs.Tests.{and-true, and-false, both}
+use Rattle.octets.proofs.Walk.{all-at}
 use Rattle.account.specs.declared.Head.{Head}
 use Rattle.account.specs.Head.{accountsOf, accountAt, noAccount, Named}
 use Rattle.record.specs.Layout.{Row, num, amountOf, REMAINDER, UNITS}
@@ -21,7 +22,6 @@ use Rattle.shape.specs.Reading.{Book, namesOf, isTaken}
 use Rattle.shape.specs.Shape.{shape, lengthsOk, accountOk, noneTwice, openOk, endedOk, total}
 use Rattle.shape.specs.Scan.{accountsOk, Judged, heldInBook, notOk, mostReserved, openBookOk, endedBookOk}
 use Rattle.shape.specs.Sound.{SoundAccount}
-use Rattle.shape.proofs.Walk.{both, all-at}
 use Rattle.shape.proofs.Facts.{account-sound}
 use Rattle.shape.proofs.Names.{length-accounts, account-at}
 use Rattle.shape.proofs.Bounds.{too-much, amounts-split}

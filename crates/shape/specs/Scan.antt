@@ -1,13 +1,14 @@
 -- What the parts of the pass answer, each a part of the shape or a sum that it is told by.
-use Prim.Native.Nat.{ℕ, suc, _+_, _*_, _≤_}
+use Prim.Native.Nat.{ℕ, _+_, _*_, _≤_}
 use mathlib.Core.Path.{_≡_}
 use mathlib.Core.Bool.{Bool, true, false, cond, not, _&&_}
 use mathlib.Core.List.{List}
 use lib.Dec.{eqb, leb}
 use lib.ListN.{length, drop}
-use lib.IntN.{ℤ, pos, negsuc}
+use lib.IntN.{pos}
 use Rattle.octets.specs.Lists.{all, count, sum}
 use Rattle.octets.specs.Parts.{same, allZero}
+use Rattle.octets.specs.Integers.{up, dn}
 use Rattle.account.specs.declared.Account.{Account}
 use Rattle.account.specs.declared.Head.{Head}
 use Rattle.account.specs.Head.{accountsOf}
@@ -69,20 +70,12 @@ openBookOk h opened =
 unfoldable pub endedBookOk : ℕ → ℕ → List ℕ → Bool
 endedBookOk accounts finished ended = all (endedOk accounts) (rows finished ended) && allZero (drop (finished * 160) ended)
 
--- how far a number lies above zero, and how far below
-abbrev pub above : ℤ → ℕ
-above (pos n) = n
-above (negsuc n) = 0
-
-abbrev pub below : ℤ → ℕ
-below (pos n) = 0
-below (negsuc n) = suc n
-
+-- how far a position lies above zero, and how far below; its remainder
 abbrev pub aboveOf : Account → ℕ
-aboveOf a = above (a .position .units)
+aboveOf a = up (a .position .units)
 
 abbrev pub belowOf : Account → ℕ
-belowOf a = below (a .position .units)
+belowOf a = dn (a .position .units)
 
 abbrev pub restOf : Account → ℕ
 restOf a = a .position .remainder

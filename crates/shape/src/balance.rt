@@ -7,7 +7,8 @@ ghost use lib.IntN.{pos};
 ghost use Rattle.account.specs.Head.{accountsOf};
 ghost use Rattle.rules.specs.Rules.{sameℤ};
 ghost use Rattle.shape.specs.Shape.{total};
-ghost use Rattle.shape.specs.Scan.{above, below, sumsOf, Judged};
+ghost use Rattle.octets.specs.Integers.{up, dn};
+ghost use Rattle.shape.specs.Scan.{sumsOf, Judged};
 
 // The units above zero, the units below it, and the remainders, each together. Not ok where so much lies below zero that nothing can
 // make up for it, so that the sums stay within 64 bits.
@@ -20,7 +21,7 @@ struct Sums {
 
 // The units of a position that lie above zero, and those that lie below.
 pub(crate) fn units_above(p: Position) -> u64
-    ensures { λ r. ⌜ r ≡ above (p .units) ⌝ }
+    ensures { λ r. ⌜ r ≡ up (p .units) ⌝ }
 {
     let units = p.units;
     if units < 0 {
@@ -30,7 +31,7 @@ pub(crate) fn units_above(p: Position) -> u64
 }
 
 fn units_below(p: Position) -> u64
-    ensures { λ r. ⌜ (r ≡ below (p .units)) × (r ≤ 9223372036854775808) ⌝ }
+    ensures { λ r. ⌜ (r ≡ dn (p .units)) × (r ≤ 9223372036854775808) ⌝ }
 {
     let units = p.units;
     if units < 0 {

@@ -2,5 +2,4 @@ pub mod Lowest
 pub mod Order
 pub mod Turns
 pub mod Cases
-pub mod Instants
 pub mod Theorems

@@ -15,7 +15,7 @@ use Rattle.shape.specs.Reading.{Book, openRows, isDue}
 use Rattle.shape.specs.Seen.{seen}
 use Rattle.shape.specs.Shape.{shape}
 use Rattle.shape.specs.Sound.{Sound}
-use Rattle.shape.proofs.Sound.{sound, shape-of}
+use Rattle.shape.proofs.Sound.{sound, shape-of, lengths-kept}
 use Rattle.time.specs.Effect.{TimeOutcome, timeStep, placesIn, atTime, expired}
 use Rattle.time.specs.Sweep.{Lent, lending, turned, swept}
 use Rattle.time.proofs.Lowest.{next-found}
@@ -47,14 +47,7 @@ swept-sound (suc m) t i s e g wide =
 -- the shape does not speak of the clock
 timed-sound : (b : Book) (t : ℤ) → Sound b → Sound (record { head = atTime t (b .head); opened = b .opened; ended = b .ended })
 timed-sound b t s = record {
-  lengths = record {
-    opened = s .lengths .opened;
-    someSlots = s .lengths .someSlots;
-    fewSlots = s .lengths .fewSlots;
-    ended = s .lengths .ended;
-    somePlaces = s .lengths .somePlaces;
-    fewPlaces = s .lengths .fewPlaces;
-  };
+  lengths = lengths-kept b _ (s .lengths) refl refl refl refl;
   few = s .few;
   account = s .account;
   once = s .once;

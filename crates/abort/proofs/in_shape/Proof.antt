@@ -4,9 +4,10 @@ use mathlib.Core.Bool.{_&&_}
 use borrow.Author.Tests.{not-true, not-false}
 use Rattle.rules.specs.Calls.{fits}
 use Rattle.uuid.specs.declared.IdRead.{IdRead}
+use Rattle.rules.proofs.Fields.{id-verdict, code-value}
 use Rattle.shape.specs.Reading.{Book}
 use Rattle.book.specs.Step.{bookOf}
-use Rattle.abort.proofs.Texts.{id-fits, code-value, firstTwo, first-refused, last-refused, none-refused, id-read}
+use Rattle.abort.proofs.Texts.{firstTwo, first-refused, last-refused, none-refused, id-read}
 use Rattle.abort.proofs.Answers.{formless, ruled}
 use borrow.Author.Needs.{needs}
 use Rattle.abort.proofs.in_shape.Statement.{statement}
@@ -24,7 +25,7 @@ judged : (f : tie.After-fits3) → f .before .fits2 .result && f .fits3 .result
 judged f =
     ap₂ _&&_ (f .before .fits2 .ensures ∙ ap fits (f .before .before .read-name .ensures))
     (f .fits3 .ensures ∙ ap (λ (r : IdRead). fits (r .verdict)) (f .before .before .before .read-id .ensures)
-    ∙ id-fits (start f .args .id .now))
+    ∙ ap fits (id-verdict (start f .args .id .now)))
 
 read-id-requires : tie.Need-read-id-requires
 read-id-requires c κs = search needs

@@ -7,8 +7,8 @@ use borrow.Author.Needs.{needs}
 use lib.ListN.{length, drop, getD, length-map}
 use lib.Seq.{length-take-le, getD-take}
 use Rattle.octets.specs.Lists.{index}
+use Rattle.octets.proofs.Search.{index-hit, index-miss, index-done}
 use Rattle.account.specs.Head.{named, accountsOf, noAccount}
-use Rattle.account.proofs.Search.{index-hit, index-miss, index-done}
 use Rattle.account.proofs.place_of.Statement.{statement}
 use Rattle.account.proofs.place_of.Tie as tie
 

@@ -1,6 +1,6 @@
 -- `is_payee`: the payee's account is in use, so its name is one of the head's.
-use Rattle.book.proofs.Names.{name-at}
 use borrow.Author.Needs.{needs}
+use Rattle.shape.proofs.Names.{name-at}
 use Rattle.book.proofs.is_payee.Statement.{statement}
 use Rattle.book.proofs.is_payee.Tie as tie
 

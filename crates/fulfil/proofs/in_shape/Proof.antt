@@ -5,9 +5,10 @@ use borrow.Author.Tests.{not-true, not-false}
 use Rattle.uuid.specs.declared.IdRead.{IdRead}
 use Rattle.base64url.specs.declared.ConditionRead.{ConditionRead}
 use Rattle.rules.specs.Calls.{fits}
+use Rattle.rules.proofs.Fields.{id-verdict, condition-verdict}
 use Rattle.shape.specs.Reading.{Book}
 use Rattle.book.specs.Step.{bookOf}
-use Rattle.fulfil.proofs.Texts.{id-fits, condition-fits, tested, tested-form, id-read, fulfilment-read}
+use Rattle.fulfil.proofs.Texts.{tested, tested-form, id-read, fulfilment-read}
 use Rattle.fulfil.proofs.Answers.{formless, ruled}
 use borrow.Author.Needs.{needs}
 use Rattle.fulfil.proofs.in_shape.Statement.{statement}
@@ -31,9 +32,9 @@ judged f =
     ap₂ _&&_
     (ap₂ _&&_ (f .before .before .fits2 .ensures ∙ ap fits (f .before .before .before .read-name .ensures))
     (f .before .fits3 .ensures ∙ ap (λ (r : IdRead). fits (r .verdict)) (readings f .before .read-id .ensures)
-    ∙ id-fits (start f .args .id .now)))
+    ∙ ap fits (id-verdict (start f .args .id .now))))
     (f .fits4 .ensures ∙ ap (λ (r : ConditionRead). fits (r .verdict)) (readings f .read-condition .ensures)
-    ∙ condition-fits (start f .args .fulfilment .now))
+    ∙ ap fits (condition-verdict (start f .args .fulfilment .now)))
 
 read-id-requires : tie.Need-read-id-requires
 read-id-requires c κs = search needs

@@ -5,9 +5,9 @@ use mathlib.Core.List.{[], _∷_}
 use native.Mathlib.Omega.{arith}
 use lib.ListN.{length, length-set, take}
 use Rattle.octets.specs.Build.{build}
+use Rattle.octets.proofs.Built.{build-step, build-end}
 use Rattle.account.specs.declared.Account.{Account}
 use Rattle.head_form.specs.Form.{accountFrom, placeAt}
-use Rattle.head_form.proofs.Built.{build-step, build-end}
 use borrow.Author.Needs.{needs}
 use Rattle.head_form.proofs.accounts_of.Statement.{statement}
 use Rattle.head_form.proofs.accounts_of.Tie as tie

@@ -5,7 +5,7 @@ use mathlib.Core.Bool.{_&&_}
 use native.Mathlib.Omega.{arith}
 use borrow.Author.Tests.{eq-eqb, ne-eqb}
 use Rattle.octets.specs.Parts.{part, allZero}
-use Rattle.octets.proofs.Equal.{and-true}
+use Rattle.octets.proofs.Tests.{and-true}
 use Rattle.head_form.specs.Form.{isFormed, placesFormed}
 use Rattle.head_form.proofs.Fields.{places-more}
 use borrow.Author.Needs.{needs}

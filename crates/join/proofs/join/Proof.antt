@@ -4,20 +4,21 @@ use mathlib.Core.Bool.{true}
 use native.Mathlib.Omega.{arith}
 use lib.ListN.{length}
 use borrow.Author.Tests.{not-true, not-false}
-use Rattle.octets.proofs.Equal.{and-false}
+use Rattle.octets.proofs.Tests.{and-false}
+use Rattle.octets.proofs.Walk.{length-unmap}
 use Rattle.form.specs.Listings.{nameForm, amountForm}
 use Rattle.amount.specs.Amount.{tenThousandths, amountOf}
 use Rattle.amount.specs.declared.Amount.{Amount}
 use Rattle.rules.specs.Calls.{fits, isOf}
+use Rattle.rules.proofs.Fields.{amount-value, amount-refused}
 use Rattle.shape.specs.Reading.{Book}
 use Rattle.shape.specs.Shape.{shape}
 use Rattle.shape.specs.Sound.{Sound}
-use Rattle.shape.proofs.Walk.{length-unmap}
 use Rattle.shape.proofs.Names.{length-accounts}
 use Rattle.shape.proofs.Sound as shape
 use Rattle.shape.proofs.Sound.{sound-named}
 use Rattle.book.specs.Step.{bookOf}
-use Rattle.join.proofs.Fields.{name-short, amount-value, amount-refused}
+use Rattle.join.proofs.Fields.{name-short}
 use Rattle.join.proofs.Joining.{join-out-of-shape, join-not-in-form, join-decided}
 use borrow.Author.Needs.{needs}
 use Rattle.join.proofs.join.Statement.{statement}

@@ -5,10 +5,10 @@ use borrow.Author.Tests.{not-true, not-false}
 use Rattle.form.specs.Listings.{idForm}
 use Rattle.uuid.specs.declared.IdRead.{IdRead}
 use Rattle.rules.specs.Calls.{fits, isOf}
+use Rattle.rules.proofs.Fields.{id-verdict, id-bytes}
 use Rattle.shape.specs.Reading.{Book}
 use Rattle.shape.specs.Shape.{shape}
 use Rattle.book.specs.Step.{bookOf}
-use Rattle.lookup.proofs.Fields.{id-verdict, id-bytes}
 use Rattle.lookup.proofs.Found.{lookup-out-of-shape, lookup-not-in-form, lookup-found}
 use borrow.Author.Needs.{needs}
 use Rattle.lookup.proofs.lookup.Statement.{statement}

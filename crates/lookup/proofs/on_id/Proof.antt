@@ -1,14 +1,14 @@
 -- `on_id`: where the search finds the record, and what is answered on it.
 use mathlib.Core.Path.{_≡_, sym, _∙_}
 use lib.ListN.{length}
+use Rattle.octets.proofs.Walk.{length-unmap}
 use Rattle.shape.specs.Reading.{Book}
 use Rattle.shape.specs.Sound.{Sound}
-use Rattle.shape.proofs.Walk.{length-unmap}
 use Rattle.shape.proofs.Sound as shape
 use Rattle.book.specs.declared.Place.the-variants.{Opened, Ended}
 use Rattle.book.specs.Step.{bookOf, whereIs}
 use Rattle.book.proofs.Held.{opened-at, ended-at}
-use Rattle.book.proofs.Ends.{in-books, in-open, in-ended}
+use Rattle.book.proofs.Decisions.{in-books, in-open, in-ended}
 use borrow.Author.Needs.{needs}
 use Rattle.lookup.proofs.on_id.Statement.{statement}
 use Rattle.lookup.proofs.on_id.Tie as tie

@@ -3,8 +3,8 @@ use Prim.Native.Nat.{_+_, _*_, _≤_}
 use mathlib.Core.Path.{_≡_, sym, _∙_}
 use native.Mathlib.Omega.{arith}
 use lib.ListN.{length}
+use Rattle.octets.proofs.Walk.{length-unmap}
 use Rattle.shape.specs.Reading.{Book}
-use Rattle.shape.proofs.Walk.{length-unmap}
 use Rattle.record.proofs.Rows.{lent-row}
 use Rattle.book.specs.declared.Place.the-variants.{Opened, Ended}
 use Rattle.book.specs.Step.{bookOf}

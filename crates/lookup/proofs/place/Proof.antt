@@ -2,17 +2,17 @@
 use mathlib.Core.Path.{_≡_, ap, sym, _∙_}
 use mathlib.Core.Bool.{true}
 use borrow.Author.Tests.{not-true, not-false}
+use Rattle.octets.proofs.Walk.{length-unmap}
 use Rattle.form.specs.Listings.{idForm}
 use Rattle.uuid.specs.declared.IdRead.{IdRead}
 use Rattle.rules.specs.Calls.{fits, isOf}
+use Rattle.rules.proofs.Fields.{id-verdict, id-bytes}
 use Rattle.shape.specs.Reading.{Book}
 use Rattle.shape.specs.Shape.{shape}
 use Rattle.book.specs.Step.{bookOf}
 use lib.ListN.{length}
-use Rattle.shape.proofs.Walk.{length-unmap}
 use Rattle.shape.proofs.Sound.{sound}
-use Rattle.book.proofs.Ends.{in-books}
-use Rattle.lookup.proofs.Fields.{id-verdict, id-bytes}
+use Rattle.book.proofs.Decisions.{in-books}
 use Rattle.lookup.proofs.Found.{nowhere-out-of-shape, nowhere-not-in-form, place-found}
 use borrow.Author.Needs.{needs}
 use Rattle.lookup.proofs.place.Statement.{statement}

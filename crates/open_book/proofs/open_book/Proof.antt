@@ -5,13 +5,13 @@ use mir.Syntax.{w64}
 use mir.Val.{SFits}
 use mir.Facts.{toZ-ofZ}
 use borrow.Author.Tests.{not-true, not-false}
-use Rattle.octets.proofs.Equal.{and-false}
+use Rattle.octets.proofs.Tests.{and-false}
 use Rattle.form.specs.Listings.{currencyForm}
 use Rattle.rules.specs.Calls.{fits, isOf}
+use Rattle.rules.proofs.Fields.{fits-form, instant-value, instant-refused}
 use Rattle.shape.specs.Reading.{Book}
 use Rattle.book.specs.Step.{bookOf}
 use Rattle.open_book.proofs.Currency.{three-long}
-use Rattle.open_book.proofs.Fields.{fits-form, instant-value, instant-refused}
 use Rattle.open_book.proofs.Opening.{open-refused, open-started}
 use borrow.Author.Needs.{needs}
 use Rattle.open_book.proofs.open_book.Statement.{statement}

@@ -9,7 +9,7 @@ use Rattle.shape.specs.Reading.{Book}
 use Rattle.book.specs.declared.Place.the-variants.{Opened, Ended, Nowhere}
 use Rattle.book.specs.Step.{bookOf, whereIs}
 use Rattle.book.proofs.Held.{held-at}
-use Rattle.book.proofs.Ends.{in-books}
+use Rattle.book.proofs.Decisions.{in-books}
 use Rattle.prepare.proofs.Places.{rises, opened-inside, ended-inside, opened-comparable, ended-comparable}
 use Rattle.prepare.proofs.decide_id.Statement.{statement}
 use Rattle.prepare.proofs.decide_id.Tie as tie

@@ -1,7 +1,7 @@
 -- `same_content`: the parties' accounts are in use, so their names are the head's.
 use borrow.Author.Needs.{needs}
 use Rattle.shape.specs.Reading.{transferOf}
-use Rattle.book.proofs.Names.{name-at}
+use Rattle.shape.proofs.Names.{name-at}
 use Rattle.prepare.proofs.same_content.Statement.{statement}
 use Rattle.prepare.proofs.same_content.Tie as tie
 

@@ -1,210 +1,62 @@
+-- `code_of`: the row of codes, at an answer's number, has its code.
+use Prim.Native.Nat.{ℕ, _<_}
+use mathlib.Core.Path.{_≡_, refl}
+use mathlib.Core.List.{List, [], _∷_}
+use native.Mathlib.Omega.{arith}
+use lib.ListN.{getD}
 use borrow.Author.Needs.{needs}
+use Rattle.rules.specs.declared.Answer.{Answer}
+use Rattle.rules.specs.declared.Answer.the-variants.{Done, NotInForm, NoPayer, NoPayee, PayerIsPayee, OtherCurrency, OtherContent, Expired, OpenBookFull, NoPlaceLeft, CapPassed, UnknownId, NotThePayee, EndedAnotherWay, NoMatch, ClockGoesBack, ListTooShort, NameHeld, AccountsFull, CapTooHigh, BadLengths, OutOfShape, OutsideYears, NoRoom, Resend}
+use Rattle.rules.specs.Answers.{number, code}
 use Rattle.rules.proofs.code_of.Statement.{statement}
 use Rattle.rules.proofs.code_of.Tie as tie
-use Rattle.rules.proofs.code_of.Reads as reads
-use Rattle.rules.proofs.code_of.Lts as lts
 
-enum-told : tie.Need-enum-told
-enum-told c = search needs
+abbrev codes : List ℕ
+codes =
+    0 ∷ 3101 ∷ 3202 ∷ 3203 ∷ 3100 ∷ 3100 ∷ 3106 ∷ 3303 ∷ 2005 ∷ 2003 ∷ 4001 ∷ 3208 ∷ 3100
+    ∷ 3100 ∷ 3100 ∷ 0 ∷ 0 ∷ 0 ∷ 0 ∷ 0 ∷ 0 ∷ 2001 ∷ 0 ∷ 0 ∷ 0 ∷ []
 
-enum-told-2 : tie.Need-enum-told-2
-enum-told-2 c = search needs
+in-row : (a : Answer) → (number a < 25) × (getD codes (number a) 0 ≡ code a)
+in-row Done = (omega arith, refl)
+in-row NotInForm = (omega arith, refl)
+in-row NoPayer = (omega arith, refl)
+in-row NoPayee = (omega arith, refl)
+in-row PayerIsPayee = (omega arith, refl)
+in-row OtherCurrency = (omega arith, refl)
+in-row OtherContent = (omega arith, refl)
+in-row Expired = (omega arith, refl)
+in-row OpenBookFull = (omega arith, refl)
+in-row NoPlaceLeft = (omega arith, refl)
+in-row CapPassed = (omega arith, refl)
+in-row UnknownId = (omega arith, refl)
+in-row NotThePayee = (omega arith, refl)
+in-row EndedAnotherWay = (omega arith, refl)
+in-row NoMatch = (omega arith, refl)
+in-row ClockGoesBack = (omega arith, refl)
+in-row ListTooShort = (omega arith, refl)
+in-row NameHeld = (omega arith, refl)
+in-row AccountsFull = (omega arith, refl)
+in-row CapTooHigh = (omega arith, refl)
+in-row BadLengths = (omega arith, refl)
+in-row OutOfShape = (omega arith, refl)
+in-row OutsideYears = (omega arith, refl)
+in-row NoRoom = (omega arith, refl)
+in-row Resend = (omega arith, refl)
 
-enum-told-3 : tie.Need-enum-told-3
-enum-told-3 c = search needs
+number-of-requires : tie.Need-number-of-requires
+number-of-requires c κs = search needs
 
-enum-told-4 : tie.Need-enum-told-4
-enum-told-4 c = search needs
+cast-result : tie.Need-cast-result
+cast-result c = search needs
 
-enum-told-5 : tie.Need-enum-told-5
-enum-told-5 c = search needs
+mul-result : tie.Need-mul-result
+mul-result c = search needs
 
-enum-told-6 : tie.Need-enum-told-6
-enum-told-6 c = search needs
-
-enum-told-7 : tie.Need-enum-told-7
-enum-told-7 c = search needs
-
-enum-told-8 : tie.Need-enum-told-8
-enum-told-8 c = search needs
-
-enum-told-9 : tie.Need-enum-told-9
-enum-told-9 c = search needs
-
-enum-told-10 : tie.Need-enum-told-10
-enum-told-10 c = search needs
-
-enum-told-11 : tie.Need-enum-told-11
-enum-told-11 c = search needs
-
-enum-told-12 : tie.Need-enum-told-12
-enum-told-12 c = search needs
-
-enum-told-13 : tie.Need-enum-told-13
-enum-told-13 c = search needs
-
-enum-told-14 : tie.Need-enum-told-14
-enum-told-14 c = search needs
-
-enum-told-15 : tie.Need-enum-told-15
-enum-told-15 c = search needs
-
-enum-told-16 : tie.Need-enum-told-16
-enum-told-16 c = search needs
-
-enum-told-17 : tie.Need-enum-told-17
-enum-told-17 c = search needs
-
-enum-told-18 : tie.Need-enum-told-18
-enum-told-18 c = search needs
-
-enum-told-19 : tie.Need-enum-told-19
-enum-told-19 c = search needs
-
-enum-told-20 : tie.Need-enum-told-20
-enum-told-20 c = search needs
-
-enum-told-21 : tie.Need-enum-told-21
-enum-told-21 c = search needs
-
-enum-told-22 : tie.Need-enum-told-22
-enum-told-22 c = search needs
-
-enum-told-23 : tie.Need-enum-told-23
-enum-told-23 c = search needs
-
-enum-told-24 : tie.Need-enum-told-24
-enum-told-24 c = search needs
-
-enum-told-25 : tie.Need-enum-told-25
-enum-told-25 c = search needs
+array-read-result : tie.Need-array-read-result
+array-read-result c = rw (c .number-of .ensures) (in-row (c .before .args .a) .0)
 
 returns : tie.Need-returns
-returns c = rw (c .enum-told .given .1)
-
-returns-2 : tie.Need-returns-2
-returns-2 c = rw (c .enum-told2 .given .1)
-
-returns-3 : tie.Need-returns-3
-returns-3 c = rw (c .enum-told3 .given .1)
-
-returns-4 : tie.Need-returns-4
-returns-4 c = rw (c .enum-told4 .given .1)
-
-returns-5 : tie.Need-returns-5
-returns-5 c = rw (c .enum-told5 .given .1)
-
-returns-6 : tie.Need-returns-6
-returns-6 c = rw (c .enum-told6 .given .1)
-
-returns-7 : tie.Need-returns-7
-returns-7 c = rw (c .enum-told7 .given .1)
-
-returns-8 : tie.Need-returns-8
-returns-8 c = rw (c .enum-told8 .given .1)
-
-returns-9 : tie.Need-returns-9
-returns-9 c = rw (c .enum-told9 .given .1)
-
-returns-10 : tie.Need-returns-10
-returns-10 c = rw (c .enum-told10 .given .1)
-
-returns-11 : tie.Need-returns-11
-returns-11 c = rw (c .enum-told11 .given .1)
-
-returns-12 : tie.Need-returns-12
-returns-12 c = rw (c .enum-told12 .given .1)
-
-returns-13 : tie.Need-returns-13
-returns-13 c = rw (c .enum-told13 .given .1)
-
-returns-14 : tie.Need-returns-14
-returns-14 c = rw (c .enum-told14 .given .1)
-
-returns-15 : tie.Need-returns-15
-returns-15 c = rw (c .enum-told15 .given .1)
-
-returns-16 : tie.Need-returns-16
-returns-16 c = rw (c .enum-told16 .given .1)
-
-returns-17 : tie.Need-returns-17
-returns-17 c = rw (c .enum-told17 .given .1)
-
-returns-18 : tie.Need-returns-18
-returns-18 c = rw (c .enum-told18 .given .1)
-
-returns-19 : tie.Need-returns-19
-returns-19 c = rw (c .enum-told19 .given .1)
-
-returns-20 : tie.Need-returns-20
-returns-20 c = rw (c .enum-told20 .given .1)
-
-returns-21 : tie.Need-returns-21
-returns-21 c = rw (c .enum-told21 .given .1)
-
-returns-22 : tie.Need-returns-22
-returns-22 c = rw (c .enum-told22 .given .1)
-
-returns-23 : tie.Need-returns-23
-returns-23 c = rw (c .enum-told23 .given .1)
-
-returns-24 : tie.Need-returns-24
-returns-24 c = rw (c .enum-told24 .given .1)
-
-returns-25 : tie.Need-returns-25
-returns-25 c = rw (c .enum-told25 .given .1)
+returns c = rw (c .number-of .ensures) (in-row (c .before .args .a) .1)
 
 pub code-of-spec : {M : Type 1} → statement M
-code-of-spec =
-    tie.close
-    (tie.spec
-    enum-told
-    enum-told-2
-    enum-told-3
-    enum-told-4
-    enum-told-5
-    enum-told-6
-    enum-told-7
-    enum-told-8
-    enum-told-9
-    enum-told-10
-    enum-told-11
-    enum-told-12
-    enum-told-13
-    enum-told-14
-    enum-told-15
-    enum-told-16
-    enum-told-17
-    enum-told-18
-    enum-told-19
-    enum-told-20
-    enum-told-21
-    enum-told-22
-    enum-told-23
-    enum-told-24
-    enum-told-25
-    returns
-    returns-2
-    returns-3
-    returns-4
-    returns-5
-    returns-6
-    returns-7
-    returns-8
-    returns-9
-    returns-10
-    returns-11
-    returns-12
-    returns-13
-    returns-14
-    returns-15
-    returns-16
-    returns-17
-    returns-18
-    returns-19
-    returns-20
-    returns-21
-    returns-22
-    returns-23
-    returns-24
-    returns-25)
+code-of-spec = tie.close (tie.spec number-of-requires cast-result mul-result array-read-result returns)

@@ -2,7 +2,7 @@
 use mathlib.Core.Path.{sym, _∙_}
 use mathlib.Core.Bool.{false≢true}
 use borrow.Author.Needs.{needs}
-use Rattle.prepare.proofs.Texts.{amount-read, amount-refused}
+use Rattle.rules.proofs.Fields.{amount-value, amount-refused}
 use Rattle.prepare.proofs.fields.amount_field.Statement.{statement}
 use Rattle.prepare.proofs.fields.amount_field.Tie as tie
 
@@ -19,15 +19,15 @@ returns : tie.Need-returns
 returns c =
     let read = c .before .before .before in
     let s = read .before .before .args .s .now in
-    let t = amount-read s _ (sym (read .read-amount .ensures) ∙ c .before .read .given .1) in
-    (t .0, λ e. t .1)
+    let t = amount-value s _ (sym (read .read-amount .ensures) ∙ c .before .read .given .1) in
+    (sym (t .0), λ e. sym (t .1))
 
 returns-2 : tie.Need-returns-2
 returns-2 c =
     let read = c .before .before in
     let s = read .before .before .args .s .now in
     let t = amount-refused s _ (sym (read .read-amount .ensures) ∙ c .enum-told .given .1) in
-    (t, λ e. absurd (false≢true e))
+    (sym t, λ e. absurd (false≢true e))
 
 pub amount-field-spec : {M : Type 1} → statement M
 amount-field-spec =

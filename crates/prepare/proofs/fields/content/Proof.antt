@@ -6,7 +6,8 @@ use mir.Val.{SFits}
 use borrow.Author.Needs.{needs}
 use Rattle.form.specs.Listings.{idForm, conditionForm, packetForm}
 use Rattle.rules.specs.Calls.{isOf}
-use Rattle.prepare.proofs.Texts.{id-read, condition-read, all-five, content-same}
+use Rattle.rules.proofs.Fields.{id-verdict, id-bytes, condition-verdict, condition-bytes}
+use Rattle.prepare.proofs.Texts.{all-five, content-same}
 use Rattle.prepare.proofs.fields.content.Statement.{statement}
 use Rattle.prepare.proofs.fields.content.Tie as tie
 
@@ -53,18 +54,18 @@ returns c =
     let id = amount .before in
     let a = id .before .before .before .before .before .before .args in
     let told : third .fits4 .result ≡ isOf conditionForm (a .condition .now) =
-    rw (third .fits4 .ensures, condition .read-condition .ensures, condition-read (a .condition .now) .0) refl in
+    rw (third .fits4 .ensures, condition .read-condition .ensures, condition-verdict (a .condition .now)) refl in
     let told2 : second .fits3 .result ≡ isOf idForm (a .id .now) =
-    rw (second .fits3 .ensures, id .read-id .ensures, id-read (a .id .now) .0) refl in
+    rw (second .fits3 .ensures, id .read-id .ensures, id-verdict (a .id .now)) refl in
     let told3 : first .fits2 .result ≡ isOf packetForm (a .packet .now) = rw (first .fits2 .ensures, packet .read-packet .ensures) refl in
     record {
       ok = rw (told2, amount .amount-field .ensures .0, told, instant .instant-field .ensures .0, told3);
       content = λ e.
           let t = all-five (second .fits3 .result) (amount .amount-field .result .ok) (third .fits4 .result)
           (instant .instant-field .result .ok) (first .fits2 .result) e in
-          content-same _ _ (rw (id .read-id .ensures) (id-read (a .id .now) .1 (sym told2 ∙ t .0)))
+          content-same _ _ (rw (id .read-id .ensures) (id-bytes (a .id .now) (sym told2 ∙ t .0)))
           (amount .amount-field .ensures .1 (t .1))
-          (rw (condition .read-condition .ensures) (condition-read (a .condition .now) .1 (sym told ∙ t .2)))
+          (rw (condition .read-condition .ensures) (condition-bytes (a .condition .now) (sym told ∙ t .2)))
           (toZ-ofZ (fits instant) ∙ instant .instant-field .ensures .1 (t .3))
           (hash .hash-if .ensures e);
     }

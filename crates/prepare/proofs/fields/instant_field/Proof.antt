@@ -5,7 +5,7 @@ use mir.Facts.{toZ-ofZ}
 use mir.Syntax.{w64}
 use mir.Val.{SFits}
 use borrow.Author.Needs.{needs}
-use Rattle.prepare.proofs.Texts.{instant-read, instant-refused}
+use Rattle.rules.proofs.Fields.{instant-value, instant-refused}
 use Rattle.prepare.proofs.fields.instant_field.Statement.{statement}
 use Rattle.prepare.proofs.fields.instant_field.Tie as tie
 
@@ -25,15 +25,15 @@ returns : tie.Need-returns
 returns c =
     let read = c .before .before .before in
     let s = read .before .before .args .s .now in
-    let t = instant-read s _ (sym (read .read-datetime .ensures) ∙ c .before .read .given .1) in
-    (t .0, λ e. toZ-ofZ (fits c) ∙ t .1)
+    let t = instant-value s _ (sym (read .read-datetime .ensures) ∙ c .before .read .given .1) in
+    (sym (t .0), λ e. toZ-ofZ (fits c) ∙ sym (t .1))
 
 returns-2 : tie.Need-returns-2
 returns-2 c =
     let read = c .before .before in
     let s = read .before .before .args .s .now in
     let t = instant-refused s _ (sym (read .read-datetime .ensures) ∙ c .enum-told .given .1) in
-    (t, λ e. absurd (false≢true e))
+    (sym t, λ e. absurd (false≢true e))
 
 pub instant-field-spec : {M : Type 1} → statement M
 instant-field-spec =

@@ -7,9 +7,9 @@ use lib.ListN.{length, take}
 use lib.Seq.{take-all}
 use borrow.Author.Tests.{not-true, not-false}
 use Rattle.octets.specs.Lists.{all}
+use Rattle.octets.proofs.Walk.{all-more, all-fails, length-unmap}
 use Rattle.account.specs.Head.{accountsOf, noAccount}
 use Rattle.shape.specs.Shape.{accountOk}
-use Rattle.shape.proofs.Walk.{all-more, all-fails, length-unmap}
 use Rattle.shape.proofs.Names.{length-accounts, account-at}
 use borrow.Author.Needs.{needs}
 use Rattle.shape.proofs.accounts.all_in_form.Statement.{statement}

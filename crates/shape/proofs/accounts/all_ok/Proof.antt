@@ -2,8 +2,8 @@
 use mathlib.Core.Path.{_≡_, sym, _∙_}
 use lib.ListN.{length}
 use borrow.Author.Tests.{le-leb, lt-leb, not-true, not-false}
+use Rattle.octets.proofs.Walk.{length-unmap}
 use Rattle.shape.specs.Scan.{accountsOk}
-use Rattle.shape.proofs.Walk.{length-unmap}
 use Rattle.shape.proofs.Together.{judged-named}
 use borrow.Author.Needs.{needs}
 use Rattle.shape.proofs.accounts.all_ok.Statement.{statement}

@@ -8,9 +8,9 @@ use lib.ListN.{length, take, getD}
 use lib.Seq.{take-all}
 use Rattle.octets.specs.Lists.{all}
 use Rattle.octets.specs.Parts.{same}
+use Rattle.octets.proofs.Walk.{all-more, all-fails, length-unmap}
 use Rattle.account.specs.Head.{nameOf, accountAt}
 use Rattle.shape.specs.Reading.{namesOf}
-use Rattle.shape.proofs.Walk.{all-more, all-fails, length-unmap}
 use Rattle.shape.proofs.Names.{length-early, early-at}
 use borrow.Author.Needs.{needs}
 use Rattle.shape.proofs.accounts.is_new.Statement.{statement}

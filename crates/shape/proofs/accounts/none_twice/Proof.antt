@@ -7,10 +7,10 @@ use native.Mathlib.Omega.{arith}
 use lib.ListN.{length, take, getD}
 use lib.Seq.{take-all}
 use borrow.Author.Tests.{not-true, not-false}
+use Rattle.octets.proofs.Walk.{length-unmap}
 use Rattle.shape.specs.Reading.{namesOf}
 use Rattle.shape.specs.Shape.{noneTwice}
 use Rattle.shape.specs.Scan.{isNew}
-use Rattle.shape.proofs.Walk.{length-unmap}
 use Rattle.shape.proofs.Names.{none-more, none-fails, length-names, name-at}
 use borrow.Author.Needs.{needs}
 use Rattle.shape.proofs.accounts.none_twice.Statement.{statement}

@@ -3,9 +3,9 @@ use Prim.Native.Nat.{_-_, _<_, _≤_}
 use mathlib.Core.Path.{_≡_}
 use native.Mathlib.Omega.{arith}
 use lib.ListN.{length}
+use Rattle.octets.proofs.Walk.{length-unmap}
 use Rattle.account.specs.Head.{accountsOf, accountAt}
 use Rattle.shape.specs.Sound.{SoundAccount}
-use Rattle.shape.proofs.Walk.{length-unmap}
 use Rattle.shape.proofs.Facts.{position-most}
 use Rattle.shape.proofs.Names.{length-accounts, account-at}
 use Rattle.shape.proofs.Bounds.{Summed, sums-start, sums-more, sums-over, sums-done}

@@ -6,9 +6,10 @@ use native.Mathlib.Omega.{arith}
 use lib.ListN.{take, getD}
 use lib.Seq.{take-all}
 use Rattle.octets.specs.Lists.{all}
+use Rattle.octets.proofs.Walk.{all-more}
 use Rattle.record.specs.Rows.{rows}
+use Rattle.record.proofs.Rows.{length-rows, rows-at}
 use Rattle.shape.specs.Shape.{endedOk}
-use Rattle.shape.proofs.Walk.{all-more, length-rows, rows-at}
 use borrow.Author.Needs.{needs}
 use Rattle.shape.proofs.records.all_finished.Statement.{statement}
 use Rattle.shape.proofs.records.all_finished.Tie as tie

@@ -1,8 +1,8 @@
 -- `body_ok`: the tests are those of the definition, each on a field's bytes.
 use native.Mathlib.Omega.{arith}
 use Rattle.record.specs.Layout.{get}
+use Rattle.record.proofs.Fields.{num-byte}
 use Rattle.shape.specs.Shape.{recordOk}
-use Rattle.shape.proofs.Walk.{num-byte}
 use borrow.Author.Needs.{needs}
 use Rattle.shape.proofs.records.body_ok.Statement.{statement}
 use Rattle.shape.proofs.records.body_ok.Tie as tie

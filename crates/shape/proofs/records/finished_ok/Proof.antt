@@ -1,7 +1,7 @@
 -- `finished_ok`: the state and what ended it, and the body.
 use native.Mathlib.Omega.{arith}
+use Rattle.record.proofs.Fields.{num-byte}
 use Rattle.shape.specs.Shape.{endedOk}
-use Rattle.shape.proofs.Walk.{num-byte}
 use borrow.Author.Needs.{needs}
 use Rattle.shape.proofs.records.finished_ok.Statement.{statement}
 use Rattle.shape.proofs.records.finished_ok.Tie as tie

@@ -4,7 +4,7 @@ use mathlib.Core.Bool.{false}
 use native.Mathlib.Omega.{arith}
 use borrow.Author.Tests.{eq-eqb, ne-eqb, not-true, not-false}
 use Rattle.record.specs.Layout.{get, isFree}
-use Rattle.shape.proofs.Walk.{num-byte}
+use Rattle.record.proofs.Fields.{num-byte}
 use Rattle.shape.proofs.Slots.{in-free, in-wrong, in-taken}
 use borrow.Author.Needs.{needs}
 use Rattle.shape.proofs.records.in_slot.Statement.{statement}

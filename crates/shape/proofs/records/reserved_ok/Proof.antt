@@ -1,7 +1,7 @@
 -- `reserved_ok`: the state and what ended it, and the body.
 use native.Mathlib.Omega.{arith}
+use Rattle.record.proofs.Fields.{num-byte}
 use Rattle.shape.specs.Scan.{reservedOk}
-use Rattle.shape.proofs.Walk.{num-byte}
 use borrow.Author.Needs.{needs}
 use Rattle.shape.proofs.records.reserved_ok.Statement.{statement}
 use Rattle.shape.proofs.records.reserved_ok.Tie as tie

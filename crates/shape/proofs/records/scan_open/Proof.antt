@@ -7,8 +7,8 @@ use lib.ListN.{length, getD}
 use borrow.Author.Tests.{not-true, not-false}
 use Rattle.record.specs.Layout.{Row}
 use Rattle.record.specs.Rows.{rows}
+use Rattle.record.proofs.Rows.{length-rows, rows-at}
 use Rattle.shape.specs.Scan.{heldInSlot}
-use Rattle.shape.proofs.Walk.{length-rows, rows-at}
 use Rattle.shape.proofs.Slots.{InSlot, Counted, count-start, count-step, count-over, count-done, book-wrong, slot-wrong, slot-right}
 use borrow.Author.Needs.{needs}
 use Rattle.shape.proofs.records.scan_open.Statement.{statement}
