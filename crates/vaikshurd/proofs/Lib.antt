@@ -1,0 +1,12 @@
+pub mod Called
+pub mod Places
+pub mod Handed
+pub mod Lengths
+pub mod Packed
+pub mod Filled
+pub mod Formed
+pub mod Kept
+pub mod Accepted
+pub mod Never
+pub mod Standing
+pub mod Theorems

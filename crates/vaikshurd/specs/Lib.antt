@@ -1,0 +1,5 @@
+pub mod Packed
+pub mod Face
+pub mod Texts
+pub mod Inner
+pub mod Steps
