@@ -64,9 +64,13 @@ fn hash_letters(n: usize) {
 }
 
 fn hashes() {
+    let zeros = [0u8; 32];
     say(b"SHA-256, FIPS 180-4\n");
     say(b"  empty: ");
     say_digest(sha256::hash(b""));
+    // not published: the premise of the worked examples of crates/recount
+    say(b"  32 zeros: ");
+    say_digest(sha256::hash(&zeros));
     say(b"  abc: ");
     say_digest(sha256::hash(b"abc"));
     say(b"  448 bits: ");

@@ -1,0 +1,13 @@
+pub mod Each
+pub mod Reading
+pub mod Members
+pub mod Records
+pub mod Texts
+pub mod Done
+pub mod Opened
+pub mod Joined
+pub mod Prepared
+pub mod Ended
+pub mod ByPayee
+pub mod Swept
+pub mod Theorems
