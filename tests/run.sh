@@ -1,6 +1,7 @@
 #!/bin/sh
-# The whole test: the tables, the layout, the prover's gate, and the comparison with the second implementation. The very last line is
-# `N passed, M failed`, where N counts every part of it; the exit status is 0 only if M is 0.
+# The whole test: the tables, the layout, the header, the prover's gate, the comparisons with the second implementation, and what a
+# gateway's author does with the library. The very last line is `N passed, M failed`, where N counts every part of it; the exit status
+# is 0 only if M is 0.
 set -u
 
 cd "$(dirname "$0")/.." || exit 1
@@ -58,18 +59,37 @@ many() {
 
 # in a shell of its own, so that the folder stays
 second() (
-    rt staticlib probe && cd tests && cargo run --release --offline
+    make -s probe && cd tests && cargo run --release --offline
 )
 
+book() (
+    make -s lib && cd tests && VAIKSHURD_LIB_DIR=$PWD/../build cargo run --release --offline --bin book
+)
+
+lines() (
+    rt check switch && cd tests && cargo run --release --offline --bin lines
+)
+
+need make make
 need gcc gcc
+need g++ g++
+need clang clang
 need cargo cargo
 need python3 python3
+need pkg-config pkg-config
+need valgrind valgrind
 command -v rt >/dev/null 2>&1 || echo "the Rattle kit's rt is not on the PATH"
 
 one tables python3 tools/forms.py --check
 one layout rt fmt --check
+one header python3 tests/header.py
+many planted python3 tests/header.py --planted
 many gate rt ci
 many second second
+many book book
+many lines lines
+many library tests/library.sh
+many sanitizer tests/asan.sh
 
 echo "$passed passed, $failed failed"
 [ "$failed" -eq 0 ]

@@ -1,6 +1,6 @@
 //! The exported calls of the proved library, as safe functions on slices. The only module with `unsafe`.
 
-use crate::second::book::Answer;
+use crate::second::book::{Answer, HEAD, RECORD};
 use crate::world::{Call, Kind, Lent, Outcome};
 
 /// A slice that is lent to be written, or only to be read.
@@ -69,6 +69,17 @@ pub fn call(lent: Lent, call: &Call) -> Outcome {
         _ => 0,
     };
     Outcome { answer: unpacked(answer), place }
+}
+
+/// A fault on purpose: a finished book of one record is lent as one of two, and the open fills both with zeros. It shows
+/// that a sanitizer is there and sees what the library is handed.
+pub fn overrun() {
+    let (mut head, mut open, mut finished) = (vec![0_u8; HEAD], vec![0_u8; RECORD], vec![0_u8; RECORD]);
+    let (currency, time) = (b"XTS", b"2024-01-01T00:00:00.000Z");
+    unsafe {
+        let lent = (finished.as_mut_ptr(), 2 * RECORD);
+        vaik_open(head.as_mut_ptr(), HEAD, open.as_mut_ptr(), RECORD, lent.0, lent.1, currency.as_ptr(), 3, time.as_ptr(), 24);
+    }
 }
 
 /// `before` is what the lent numbers hold at the call.

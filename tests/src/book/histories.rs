@@ -46,11 +46,12 @@ fn large(_: &mut Random) -> Plan {
     Plan { open: 1_024, finished: 10_000, names: 8, ids: 900, careless: false }
 }
 
-/// The histories of the gate: every run has the same.
-pub fn run(report: &mut Report, tally: &mut Tally) {
+/// The histories of the gate: every run has the same. Of `share` of them only the first is taken.
+pub fn run(report: &mut Report, tally: &mut Tally, share: usize) {
     for sort in &SORTS {
         report.group(&format!("histories: {}", sort.name), |group| {
-            (0..sort.histories).try_for_each(|number| history(group, tally, sort, &format!("{} {number}", sort.name)))
+            let mut taken = (0..sort.histories).step_by(share);
+            taken.try_for_each(|number| history(group, tally, sort, &format!("{} {number}", sort.name)))
         });
     }
 }

@@ -1,7 +1,8 @@
 //! The comparison of the proved book, through its exported calls, with the second implementation. Prints a
 //! line for each group of checks and, last, how many passed and failed. SECONDS=n in the environment makes it
-//! go on for n seconds with other histories; SEED=text gives them a seed, so that they are the same again. An
-//! argument asks for the groups alone whose names start with it; `speed` asks for times instead.
+//! go on for n seconds with other histories; SEED=text gives them a seed, so that they are the same again. SHARE=n
+//! takes one of n histories, for a run that is slowed down. An argument asks for the groups alone whose names start
+//! with it; `speed` asks for times instead; `overrun` does what a sanitizer must see.
 
 mod damage;
 mod each;
@@ -30,6 +31,11 @@ fn main() -> ExitCode {
         speed::run();
         return ExitCode::SUCCESS;
     }
+    if wanted == "overrun" {
+        face::overrun();
+        println!("nobody saw it");
+        return ExitCode::SUCCESS;
+    }
     let mut report = report::Report::of(wanted);
     let mut tally = tally::Tally::default();
     second_itself::run(&mut report);
@@ -38,9 +44,12 @@ fn main() -> ExitCode {
     each::run(&mut report, &mut tally);
     limits::run(&mut report, &mut tally);
     large::run(&mut report, &mut tally);
-    histories::run(&mut report, &mut tally);
-    report.group("every answer of every call was given often enough", |group| tally.judge(group));
-    if let Some(seconds) = env::var("SECONDS").ok().and_then(|text| text.parse().ok()) {
+    let share = number("SHARE").map_or(1, |share| share.max(1) as usize);
+    histories::run(&mut report, &mut tally, share);
+    if share == 1 {
+        report.group("every answer of every call was given often enough", |group| tally.judge(group));
+    }
+    if let Some(seconds) = number("SECONDS") {
         let now = SystemTime::now().duration_since(UNIX_EPOCH).map_or(0, |since| since.as_nanos());
         let seed = env::var("SEED").unwrap_or_else(|_| now.to_string());
         histories::run_on(&mut report, &mut tally, seconds, &seed);
@@ -51,6 +60,11 @@ fn main() -> ExitCode {
     } else {
         ExitCode::FAILURE
     }
+}
+
+/// A number from the environment.
+fn number(variable: &str) -> Option<u64> {
+    env::var(variable).ok().and_then(|text| text.parse().ok())
 }
 
 /// The histories with written answers, with both implementations.
