@@ -1,14 +1,13 @@
-/* Measures the proved library beside plain C: each call of calls.h, built by gcc and
+/* Measures the field texts and the hash beside plain C: each call of calls.h, built by gcc and
    by clang, and SHA-256 also beside OpenSSL. The builds take turns, round by round,
    and the best round of each counts, so that what else the machine does cancels out. */
-#define _GNU_SOURCE
 #include "calls.h"
+#include "measure.h"
 
 #include <openssl/sha.h>
 #include <stdio.h>
 #include <stdlib.h>
 #include <string.h>
-#include <time.h>
 
 DECLARE_CALLS(probe)
 DECLARE_CALLS(gcc)
@@ -40,28 +39,7 @@ static struct {
     uint8_t message[LONG_MESSAGE];
 } values;
 
-/* ---- the same numbers in every run ---- */
-
-static uint64_t state = 0x9e3779b97f4a7c15;
-
-static uint64_t next_random(void)
-{
-    state ^= state >> 12;
-    state ^= state << 25;
-    state ^= state >> 27;
-    return state * 0x2545f4914f6cdd1d;
-}
-
-static uint64_t below(uint64_t limit)
-{
-    return (next_random() >> 16) % limit;
-}
-
-static void fill_random(uint8_t *bytes, size_t n)
-{
-    for (size_t i = 0; i < n; i++)
-        bytes[i] = (uint8_t)(next_random() >> 56);
-}
+/* ---- the same values in every run ---- */
 
 /* Amounts of one to eighteen digits, mostly with cents or none; instants of this century; ids of version 4. */
 static void make_values(void)
@@ -240,13 +218,6 @@ PASS(hash_long)
 /* ---- measuring ---- */
 
 typedef uint64_t pass(const struct calls *, const struct texts *);
-
-static double now_ns(void)
-{
-    struct timespec t;
-    clock_gettime(CLOCK_MONOTONIC, &t);
-    return (double)t.tv_sec * 1e9 + (double)t.tv_nsec;
-}
 
 static volatile uint64_t sink;
 
