@@ -91,7 +91,7 @@ fn history(group: &mut Group, tally: &mut Tally, sort: &Sort, seed: &str) -> Res
     Ok(())
 }
 
-fn one_call(group: &mut Group, tally: &mut Tally, history: &mut History, host: &mut Host) -> Result<(), Difference> {
+pub fn one_call(group: &mut Group, tally: &mut Tally, history: &mut History, host: &mut Host) -> Result<(), Difference> {
     let (lengths, call) = host.next(history.world());
     let outcome = history.call(group, tally, lengths, call.clone())?;
     host.learn(&lengths, &call, &outcome);

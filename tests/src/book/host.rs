@@ -79,6 +79,11 @@ impl Host {
         self.room
     }
 
+    /// All ids that its calls speak of, but for texts out of form.
+    pub fn ids(&self) -> &[Vec<u8>] {
+        &self.ids
+    }
+
     /// The first call of a history.
     pub fn first(&mut self) -> Call {
         let start = *self.random.of(&STARTS);

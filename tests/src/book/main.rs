@@ -1,4 +1,4 @@
-//! The comparison of the proved book, through its exported calls, with the second implementation. Prints a
+//! The comparison of the proved book, through its exported calls, with the second implementation and its recount. Prints a
 //! line for each group of checks and, last, how many passed and failed. SECONDS=n in the environment makes it
 //! go on for n seconds with other histories; SEED=text gives them a seed, so that they are the same again. SHARE=n
 //! takes one of n histories, for a run that is slowed down. An argument asks for the groups alone whose names start
@@ -13,6 +13,8 @@ mod history;
 mod host;
 mod large;
 mod limits;
+mod recount;
+mod recounted;
 mod scripts;
 mod second_itself;
 mod speed;
@@ -24,6 +26,9 @@ use common::{mutate, random, report, samples, second};
 use std::env;
 use std::process::ExitCode;
 use std::time::{SystemTime, UNIX_EPOCH};
+
+/// How often each answer of each call must have been given.
+const ENOUGH: u64 = 500;
 
 fn main() -> ExitCode {
     let wanted = env::args().nth(1).unwrap_or_default();
@@ -45,9 +50,10 @@ fn main() -> ExitCode {
     limits::run(&mut report, &mut tally);
     large::run(&mut report, &mut tally);
     let share = number("SHARE").map_or(1, |share| share.max(1) as usize);
+    recount::run(&mut report, share);
     histories::run(&mut report, &mut tally, share);
     if share == 1 {
-        report.group("every answer of every call was given often enough", |group| tally.judge(group));
+        report.group("every answer of every call was given often enough", |group| tally.judge(group, ENOUGH));
     }
     if let Some(seconds) = number("SECONDS") {
         let now = SystemTime::now().duration_since(UNIX_EPOCH).map_or(0, |since| since.as_nanos());
@@ -69,18 +75,7 @@ fn number(variable: &str) -> Option<u64> {
 
 /// The histories with written answers, with both implementations.
 fn scripted(report: &mut report::Report, tally: &mut tally::Tally) {
-    let small = ("full books", scripts::script(scripts::SMALL));
-    let all = scripts::usual().into_iter().map(|each| (each, (64, 100))).chain([(small, (2, 3))]);
-    for ((name, lines), (open, finished)) in all {
-        report.group(&format!("script: {name}"), |group| {
-            let lengths = world::Lengths::places(open, finished);
-            let mut history = history::History::new(lengths);
-            lines.iter().try_for_each(|(line, expected)| {
-                let call = world::Call::line(line);
-                let outcome = history.call(group, tally, lengths, call.clone())?;
-                let printed = second_itself::printed(&call, history.world(), outcome.answer);
-                group.same(&printed, expected, || line.clone())
-            })
-        });
+    for (name, lines, lengths) in scripts::all() {
+        report.group(&format!("script: {name}"), |group| history::History::new(lengths).script(group, tally, &lines));
     }
 }

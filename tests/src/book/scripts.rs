@@ -1,6 +1,7 @@
 //! Histories with their answers written out: 01's example, and both sides of each limit of the rules.
 
 use crate::second::{condition, sha256};
+use crate::world::Lengths;
 
 /// A line and its answer as 01's program prints it: number, code, mark, and for time the expired numbers.
 pub type Script = Vec<(String, String)>;
@@ -123,7 +124,7 @@ JOIN a 10 > 0 0 0
 ";
 
 /// Books with two open slots and three finished places: 8 before 9, and 9 for an empty slot.
-pub const SMALL: &str = "
+const SMALL: &str = "
 OPEN XTS 2024-01-01T00:00:00.000Z > 0 0 0
 JOIN a 1 > 0 0 0
 JOIN b 1 > 0 0 0
@@ -142,10 +143,16 @@ PREPARE #4 a b XTS 0 {C} 2024-01-01T00:00:04.000Z AQ > 9 2003 0
 PREPARE #3 a b XTS 1 {C} 2024-01-01T00:00:03.000Z AQ > 24 0 3
 ";
 
-/// With the program's books of 01: 64 open and 100 finished places.
-pub fn usual() -> [(&'static str, Script); 4] {
-    [("01's example", EXAMPLE), ("caps", CAPS), ("the order of the checks", ORDER), ("endings", ENDINGS)]
-        .map(|(name, text)| (name, script(text)))
+/// Each with its name and its books: those of 01's program have 64 open and 100 finished places.
+pub fn all() -> [(&'static str, Script, Lengths); 5] {
+    [
+        ("01's example", EXAMPLE, (64, 100)),
+        ("caps", CAPS, (64, 100)),
+        ("the order of the checks", ORDER, (64, 100)),
+        ("endings", ENDINGS, (64, 100)),
+        ("full books", SMALL, (2, 3)),
+    ]
+    .map(|(name, text, (open, finished))| (name, script(text), Lengths::places(open, finished)))
 }
 
 /// Lines with their short forms written out: ids, the secret and its condition, each also by its last text.

@@ -3,15 +3,14 @@
 use crate::host::{Host, Plan};
 use crate::random::Random;
 use crate::report::{Difference, Group, Report};
-use crate::scripts::{script, usual, SMALL};
+use crate::scripts::{all, Script};
 use crate::second::book::{Head, Transfer, RECORD};
 use crate::world::{second, Buffer, Call, Kind, Lengths, World};
 
 pub fn run(report: &mut Report) {
-    for (name, lines) in usual() {
-        report.group(&format!("second itself: {name}"), |group| scripted(group, &Lengths::places(64, 100), &lines));
+    for (name, lines, lengths) in all() {
+        report.group(&format!("second itself: {name}"), |group| scripted(group, &lengths, &lines));
     }
-    report.group("second itself: full books", |group| scripted(group, &Lengths::places(2, 3), &script(SMALL)));
     report.group("second itself: from an accepted open never 21, positions sum, none above its cap", histories);
 }
 
@@ -19,13 +18,12 @@ pub fn run(report: &mut Report) {
 pub fn printed(call: &Call, world: &World, answer: crate::second::book::Answer) -> String {
     let mut all = vec![answer.number, answer.code, answer.mark];
     if call.kind == Kind::Time {
-        let places = world.bytes(Buffer::List).chunks(4).take(answer.mark as usize);
-        all.extend(places.map(|four| u32::from_be_bytes([four[0], four[1], four[2], four[3]])));
+        all.extend(world.listed(answer.mark as usize));
     }
     all.iter().map(u32::to_string).collect::<Vec<_>>().join(" ")
 }
 
-fn scripted(group: &mut Group, lengths: &Lengths, lines: &[(String, String)]) -> Result<(), Difference> {
+fn scripted(group: &mut Group, lengths: &Lengths, lines: &Script) -> Result<(), Difference> {
     let mut world = World::new(lengths);
     lines.iter().try_for_each(|(line, expected)| {
         let call = Call::line(line);

@@ -21,20 +21,17 @@ fn answers(kind: Kind) -> &'static [u32] {
     }
 }
 
-/// How often each of them must have been given.
-const ENOUGH: u64 = 500;
-
 impl Tally {
     pub fn count(&mut self, kind: Kind, number: u32) {
         self.counts[kind as usize][number as usize] += 1;
     }
 
     /// Each call gave each of its answers often enough, and none that it hasn't.
-    pub fn judge(&self, group: &mut Group) -> Result<(), Difference> {
+    pub fn judge(&self, group: &mut Group, enough: u64) -> Result<(), Difference> {
         for kind in KINDS {
             for number in 0..25 {
                 let count = self.counts[kind as usize][number as usize];
-                let expected = if answers(kind).contains(&number) { count.max(ENOUGH) } else { 0 };
+                let expected = if answers(kind).contains(&number) { count.max(enough) } else { 0 };
                 group.same(count, expected, || format!("{kind:?}, how often answer {number} was given"))?;
             }
         }

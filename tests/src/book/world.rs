@@ -79,6 +79,12 @@ impl World {
         &all[GUARD..all.len() - GUARD]
     }
 
+    /// The first numbers of the time list.
+    pub fn listed(&self, count: usize) -> Vec<u32> {
+        let places = self.bytes(Buffer::List).chunks_exact(4).take(count);
+        places.map(|four| u32::from_be_bytes([four[0], four[1], four[2], four[3]])).collect()
+    }
+
     pub fn put(&mut self, buffer: Buffer, at: usize, bytes: &[u8]) {
         self.buffers[buffer as usize][GUARD + at..][..bytes.len()].copy_from_slice(bytes);
     }

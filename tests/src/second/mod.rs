@@ -11,6 +11,7 @@ pub mod expression;
 pub mod id;
 pub mod name;
 pub mod packet;
+pub mod recount;
 pub mod sha256;
 
 /// A value, or the offset of the first byte at which no text of the form can go on; for a text that stops
