@@ -30,6 +30,24 @@ pub num-byte : (at : ℕ) (r : Row) → at < length r → num (bytes at 1) r ≡
 unfolding get numberFrom
 num-byte at r h = rw (drop-cons r at 0 h) (omega arith)
 
+-- the units, as two numbers of four bytes
+pub num-units : (r : Row) → length r ≡ 160 →
+    num UNITS r
+    ≡ number (getD r 24 0 ∷ getD r 25 0 ∷ getD r 26 0 ∷ getD r 27 0 ∷ []) * 2 ^ 32
+    + number (getD r 28 0 ∷ getD r 29 0 ∷ getD r 30 0 ∷ getD r 31 0 ∷ [])
+unfolding get numberFrom
+num-units r h =
+    rw (
+      drop-cons r 24 0 (omega arith),
+      drop-cons r 25 0 (omega arith),
+      drop-cons r 26 0 (omega arith),
+      drop-cons r 27 0 (omega arith),
+      drop-cons r 28 0 (omega arith),
+      drop-cons r 29 0 (omega arith),
+      drop-cons r 30 0 (omega arith),
+      drop-cons r 31 0 (omega arith),
+    ) (omega arith)
+
 -- a field of a record that is zero
 pub zero-num : (f : Field) (r : Row) → allZero r ≡ true → num f r ≡ 0
 unfolding get

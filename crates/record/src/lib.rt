@@ -7,7 +7,7 @@ ghost use lib.ListN.{length};
 ghost use lib.Seq.{sets};
 ghost use mir.Syntax.{w64};
 ghost use mir.Val.{ofZ};
-ghost use Rattle.octets.specs.Numbers.{bigEndian};
+ghost use Rattle.octets.specs.Numbers.{number, bigEndian};
 ghost use Rattle.octets.specs.Parts.{zeros};
 ghost use Rattle.octets.specs.Lists.{index};
 ghost use Rattle.record.specs.Layout.{num, expirationOf, with, _≔_, newRow, endedRow, isFree};
@@ -53,11 +53,29 @@ pub fn payee_of(part: &[u8]) -> usize
     octets::number(part, 18, 1) as usize
 }
 
+// Four bytes as a number, the most significant first.
+fn four(a: u8, b: u8, c: u8, d: u8) -> u32
+    ensures { λ r. ⌜ r ≡ number (a ∷ b ∷ c ∷ d ∷ []) ⌝ }
+{
+    (((a as u32) * 256 + (b as u32)) * 256 + (c as u32)) * 256 + (d as u32)
+}
+
+// The whole units, as two numbers of four bytes: the compiler makes one load of both. Of a loop over eight bytes it drops those that do not
+// count for a test, and then loads the rest one by one.
+pub fn units_of(part: &[u8]) -> u64
+    requires { ⌜ length (now part) ≡ 160 ⌝ }
+    ensures { λ r. ⌜ r ≡ num UNITS (now (part .entry)) ⌝ }
+{
+    let upper = four(part[24], part[25], part[26], part[27]);
+    let lower = four(part[28], part[29], part[30], part[31]);
+    (upper as u64) * 4294967296 + (lower as u64)
+}
+
 pub fn amount_of(part: &[u8]) -> Amount
     requires { ⌜ length (now part) ≡ 160 ⌝ }
     ensures { λ r. ⌜ (r .units ≡ num UNITS (now (part .entry))) × (r .remainder ≡ num REMAINDER (now (part .entry))) ⌝ }
 {
-    let units = octets::number(part, 24, 8);
+    let units = units_of(part);
     let remainder = octets::number(part, 22, 2) as u16;
     Amount { units, remainder }
 }
@@ -69,15 +87,16 @@ pub fn expiration_of(part: &[u8]) -> i64
     octets::signed(octets::number(part, 32, 8))
 }
 
-// Whether the record is one, and not a free slot, with this id.
+// Whether the record is one, and not a free slot, with this id. The id comes first: its first byte tells most records apart, and the state
+// often lies in another line of the cache.
 pub fn has_id(part: &[u8], id: [u8; 16]) -> bool
     requires { ⌜ length (now part) ≡ 160 ⌝ }
     ensures { λ r. ⌜ r ≡ holds id (now (part .entry)) ⌝ }
 {
-    if part[16] == 0 {
-        return false;
+    if octets::same(&part[0..16], &id) {
+        return part[16] != 0;
     }
-    octets::same(&part[0..16], &id)
+    false
 }
 
 // The place of the first of n records that has the id, or n.

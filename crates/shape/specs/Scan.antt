@@ -1,9 +1,9 @@
 -- What the parts of the pass answer, each a part of the shape or a sum that it is told by.
 use Prim.Native.Nat.{ℕ, _+_, _*_, _≤_}
 use mathlib.Core.Path.{_≡_}
-use mathlib.Core.Bool.{Bool, true, false, cond, not, _&&_}
+use mathlib.Core.Bool.{Bool, true, false, cond, not, _&&_, _||_}
 use mathlib.Core.List.{List}
-use lib.Dec.{eqb, leb}
+use lib.Dec.{eqb, leb, ltb}
 use lib.ListN.{length, drop}
 use lib.IntN.{pos}
 use Rattle.octets.specs.Lists.{all, count, sum}
@@ -12,7 +12,7 @@ use Rattle.octets.specs.Integers.{up, dn}
 use Rattle.account.specs.declared.Account.{Account}
 use Rattle.account.specs.declared.Head.{Head}
 use Rattle.account.specs.Head.{accountsOf}
-use Rattle.record.specs.Layout.{Row, num, amountOf, STATE, ENDED-BY, REMAINDER, UNITS}
+use Rattle.record.specs.Layout.{Row, num, amountOf, STATE, PAYER, PAYEE, ENDED-BY, REMAINDER, UNITS}
 use Rattle.record.specs.Rows.{rows}
 use Rattle.rules.specs.Rules.{sameℤ}
 use Rattle.shape.specs.declared.records.Held.{Held}
@@ -37,6 +37,17 @@ pub record Judged (h : Head) : Type 0 where
 pub record Sized (slots : ℕ) (book : List ℕ) : Type 0 where
   pub long : length book ≡ slots * 160
   pub few : slots ≤ 1024
+
+-- a record but for its units
+unfoldable pub bodyOk : ℕ → Row → Bool
+bodyOk accounts r =
+    (ltb (num PAYER r) accounts && (ltb (num PAYEE r) accounts && not (eqb (num PAYER r) (num PAYEE r)))) && ltb (num REMAINDER r) 10000
+
+-- a finished record but for its units, which are tested for all records at once
+unfoldable pub closedOk : ℕ → Row → Bool
+closedOk accounts r =
+    ((eqb (num STATE r) 3 && eqb (num ENDED-BY r) 1) || (eqb (num STATE r) 4 && (eqb (num ENDED-BY r) 2 || eqb (num ENDED-BY r) 3)))
+    && bodyOk accounts r
 
 -- a slot that is taken
 unfoldable pub reservedOk : ℕ → Row → Bool

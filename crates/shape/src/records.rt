@@ -1,11 +1,13 @@
 // The records' part of the shape.
 ghost use mathlib.Core.Path.{_≡_};
+ghost use mathlib.Core.Bool.{cond};
 ghost use Prim.Native.Nat.{_*_, _≤_};
+ghost use lib.Dec.{ltb};
 ghost use lib.ListN.{length};
 ghost use Rattle.octets.specs.Lists.{all};
 ghost use Rattle.record.specs.Rows.{rows};
-ghost use Rattle.shape.specs.Shape.{recordOk, endedOk};
-ghost use Rattle.shape.specs.Scan.{reservedOk, notOk, heldInSlot, heldInBook, endedBookOk, Sized};
+ghost use Rattle.shape.specs.Shape.{endedOk};
+ghost use Rattle.shape.specs.Scan.{bodyOk, reservedOk, closedOk, notOk, heldInSlot, heldInBook, endedBookOk, Sized};
 
 // What a slot or the open book holds: whether it is of the shape, and then how many slots are taken and what their amounts are together,
 // in units and ten-thousandths. Amounts beyond what any positions could sum to are not of the shape, so that the sums stay within 64 bits.
@@ -28,17 +30,16 @@ fn not_ok() -> Held
     }
 }
 
-// Parties are existing accounts and differ, the amount is in range.
+// Parties are existing accounts and differ, the remainder is in range.
 fn body_ok(part: &[u8], accounts: u8) -> bool
     requires { ⌜ length (now part) ≡ 160 ⌝ }
-    ensures { λ r. ⌜ r ≡ recordOk accounts (now (part .entry)) ⌝ }
+    ensures { λ r. ⌜ r ≡ bodyOk accounts (now (part .entry)) ⌝ }
 {
     let payer = part[17];
     let payee = part[18];
     let parties = (payer < accounts) & ((payee < accounts) & (payer != payee));
-    let units = octets::number(part, 24, 8);
     let remainder = octets::number(part, 22, 2);
-    parties & ((units < 1000000000000000000) & (remainder < 10000))
+    parties & (remainder < 10000)
 }
 
 // A slot that is taken: RESERVED, and ended by nothing.
@@ -48,13 +49,14 @@ fn reserved_ok(part: &[u8], accounts: u8) -> bool
 {
     let state = part[16];
     let by = part[19];
-    ((state == 2) & (by == 0)) & body_ok(part, accounts)
+    let units = record::units_of(part);
+    ((state == 2) & (by == 0)) & (body_ok(part, accounts) & (units < 1000000000000000000))
 }
 
-// COMMITTED by a fulfilment, or ABORTED by the payee or by expiry.
+// COMMITTED by a fulfilment, or ABORTED by the payee or by expiry; the units are not judged here.
 fn finished_ok(part: &[u8], accounts: u8) -> bool
     requires { ⌜ length (now part) ≡ 160 ⌝ }
-    ensures { λ r. ⌜ r ≡ endedOk accounts (now (part .entry)) ⌝ }
+    ensures { λ r. ⌜ r ≡ closedOk accounts (now (part .entry)) ⌝ }
 {
     let state = part[16];
     let by = part[19];
@@ -78,7 +80,7 @@ fn in_slot(part: &[u8], accounts: u8) -> Held
     if !reserved_ok(part, accounts) {
         return not_ok();
     }
-    let units = octets::number(part, 24, 8);
+    let units = record::units_of(part);
     let remainder = octets::number(part, 22, 2);
     Held {
         ok: true,
@@ -120,20 +122,44 @@ pub(crate) fn scan_open(opened: &[u8], slots: usize, accounts: u8) -> Held
     }
 }
 
-// The first records of the finished book. No branch for each record: this is the pass that a call's time goes to.
+// The number of the last wrong record: k, unless it is right.
+fn last_wrong(before: usize, k: usize, right: bool) -> usize
+    ensures { λ r. ⌜ r ≡ cond right before k ⌝ }
+{
+    if right {
+        return before;
+    }
+    k
+}
+
+fn greater(a: u64, b: u64) -> u64
+    ensures { λ r. ⌜ r ≡ cond (ltb a b) b a ⌝ }
+{
+    if a < b {
+        return b;
+    }
+    a
+}
+
+// The first records of the finished book. This is the pass that a call's time goes to, and so has no branch for a record: the last wrong one
+// is noted, and of the units, which are in range where the greatest are, the greatest are kept and tested once.
 fn all_finished(ended: &[u8], finished: usize, accounts: u8) -> bool
     requires { ⌜ finished * 160 ≤ length (now ended) ⌝ }
     ensures { λ r. ⌜ r ≡ all (endedOk accounts) (rows finished (now (ended .entry))) ⌝ }
 {
-    let mut ok = true;
+    let mut wrong: usize = finished;
+    let mut most: u64 = 0;
     let mut k = 0;
     while k < finished {
         let at = k * 160;
         let end = at + 160;
-        ok = ok & finished_ok(&ended[at..end], accounts);
+        let right = finished_ok(&ended[at..end], accounts);
+        let units = record::units_of(&ended[at..end]);
+        wrong = last_wrong(wrong, k, right);
+        most = greater(most, units);
         k += 1;
     }
-    ok
+    (wrong == finished) & (most < 1000000000000000000)
 }
 
 // The finished records are of the shape, and the rest of the book is zero.

@@ -128,12 +128,12 @@ fn speed(group: &mut Group) -> Result<(), Difference> {
     let input = [lines, calls.repeat(25_000)].concat();
     let (time, output) = proved::timed(&input);
     compare(group, &input, &output)?;
-    println!("  100,003 lines in {} ms", time.as_millis());
-    group.same(time < Duration::from_millis(1_500), true, || format!("took {time:?}"))
+    println!("  100,003 lines in {} ms of the processor", time.as_millis());
+    group.same(time < Duration::from_millis(1_000), true, || format!("took {time:?}"))
 }
 
 fn memory(group: &mut Group) -> Result<(), Difference> {
     let (short, endless) = (proved::peak_after(1 << 20), proved::peak_after(64 << 20));
     println!("  {short} kB after 1 MB, {endless} kB after 64 MB");
-    group.same(endless <= short + 256 && endless < 8_192, true, || format!("{short} kB after 1 MB, {endless} kB after 64 MB"))
+    group.same(endless <= short + 1_024 && endless < 8_192, true, || format!("{short} kB after 1 MB, {endless} kB after 64 MB"))
 }

@@ -2,7 +2,7 @@
 use native.Mathlib.Omega.{arith}
 use Rattle.record.specs.Layout.{get}
 use Rattle.record.proofs.Fields.{num-byte}
-use Rattle.shape.specs.Shape.{recordOk}
+use Rattle.shape.specs.Scan.{bodyOk}
 use borrow.Author.Needs.{needs}
 use Rattle.shape.proofs.records.body_ok.Statement.{statement}
 use Rattle.shape.proofs.records.body_ok.Tie as tie
@@ -16,21 +16,12 @@ shared-slice-read-payee c = search needs
 number-requires : tie.Need-number-requires
 number-requires c κs = search needs
 
-number-requires-2 : tie.Need-number-requires-2
-number-requires-2 c κs = search needs
-
 returns : tie.Need-returns
-unfolding recordOk get
+unfolding bodyOk get
 returns c =
-    let r = c .before .before .before .before .before .args .part .now in
-    rw (num-byte 17 r (omega arith), num-byte 18 r (omega arith), c .before .number .ensures .0, c .number2 .ensures .0)
+    let r = c .before .before .before .before .args .part .now in
+    rw (num-byte 17 r (omega arith), num-byte 18 r (omega arith), c .number .ensures .0)
 
 pub body-ok-spec : {M : Type 1} → statement M
 body-ok-spec =
-    tie.close
-    (tie.spec
-    shared-slice-read-payer
-    shared-slice-read-payee
-    number-requires
-    number-requires-2
-    returns)
+    tie.close (tie.spec shared-slice-read-payer shared-slice-read-payee number-requires returns)

@@ -1,7 +1,7 @@
 -- `finished_ok`: the state and what ended it, and the body.
 use native.Mathlib.Omega.{arith}
 use Rattle.record.proofs.Fields.{num-byte}
-use Rattle.shape.specs.Shape.{endedOk}
+use Rattle.shape.specs.Scan.{closedOk}
 use borrow.Author.Needs.{needs}
 use Rattle.shape.proofs.records.finished_ok.Statement.{statement}
 use Rattle.shape.proofs.records.finished_ok.Tie as tie
@@ -16,7 +16,7 @@ body-ok-requires : tie.Need-body-ok-requires
 body-ok-requires c κs = search needs
 
 returns : tie.Need-returns
-unfolding endedOk
+unfolding closedOk
 returns c =
     let r = c .before .before .before .before .args .part .now in
     rw (num-byte 16 r (omega arith), num-byte 19 r (omega arith), c .body-ok .ensures)

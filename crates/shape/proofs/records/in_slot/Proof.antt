@@ -40,18 +40,18 @@ returns-2 c =
     c .not-ok .ensures
     ∙ in-wrong (s .accounts) (s .part .now) (full (t .before)) (sym (t .reserved-ok .ensures) ∙ not-true _ (c .before .if2 .taken))
 
+units-of-requires : tie.Need-units-of-requires
+units-of-requires c κs = search needs
+
 number-requires : tie.Need-number-requires
 number-requires c κs = search needs
-
-number-requires-2 : tie.Need-number-requires-2
-number-requires-2 c κs = search needs
 
 returns-3 : tie.Need-returns-3
 unfolding get
 returns-3 c =
     let t = c .before .before .before in
     let s = t .before .before .before .before .args in
-    rw (c .before .number .ensures .0, c .number2 .ensures .0)
+    rw (c .before .units-of .ensures, c .number .ensures .0)
     (in-taken (s .accounts) (s .part .now) (full (t .before)) (sym (t .reserved-ok .ensures) ∙ not-false _ (c .before .before .if2 .left)))
 
 pub in-slot-spec : {M : Type 1} → statement M
@@ -64,6 +64,6 @@ in-slot-spec =
     reserved-ok-requires
     not-ok-requires
     returns-2
+    units-of-requires
     number-requires
-    number-requires-2
     returns-3)
