@@ -7,7 +7,7 @@ use lib.Dec.{leb}
 use lib.ListN.{length}
 use Rattle.octets.proofs.Tests.{and-assoc}
 use Rattle.lines.specs.Lines.{isSpace, isEmpty, startsWithSpace, endsWithSpace, twoSpacesInARow}
-use Rattle.lines.specs.Lines.{grown, pieces, mostWords, wellBuilt}
+use Rattle.lines.specs.Lines.{grown, cutAt, pieces, mostWords, wellBuilt}
 
 -- no piece is empty
 abbrev pub full : List (List ℕ) → Bool
@@ -29,7 +29,7 @@ grown-rest c (p ∷ ps) = refl
 
 -- the first piece is empty where the line starts with a space
 from-first : (c : ℕ) (s : List ℕ) → full (pieces (c ∷ s)) ≡ not (isSpace c) && full (rest (pieces (c ∷ s)))
-unfolding pieces
+unfolding cutAt
 from-first c s = by (isSpace c)
   where
     cut : Bool → List (List ℕ)
@@ -46,7 +46,7 @@ neither false e t = refl
 
 -- a later piece is empty where the line ends with a space or has two in a row
 from-second : (s : List ℕ) → full (rest (pieces s)) ≡ not (endsWithSpace s) && not (twoSpacesInARow s)
-unfolding pieces endsWithSpace twoSpacesInARow
+unfolding cutAt endsWithSpace twoSpacesInARow
 from-second [] = refl
 from-second (c ∷ []) = by (isSpace c)
   where
@@ -65,7 +65,7 @@ from-second (c ∷ d ∷ s) = by (isSpace c) (from-second (d ∷ s))
 
 full-words : (s : List ℕ) →
     full (pieces s) ≡ not (isEmpty s) && (not (startsWithSpace s) && (not (endsWithSpace s) && not (twoSpacesInARow s)))
-unfolding pieces
+unfolding cutAt
 full-words [] = refl
 full-words (c ∷ s) = from-first c s ∙ ap (λ (t : Bool). not (isSpace c) && t) (from-second (c ∷ s))
 

@@ -12,39 +12,39 @@ use borrow.Author.Tests.{le-leb, lt-leb}
 use Rattle.octets.specs.Parts.{part}
 use Rattle.octets.proofs.Tests.{and-false}
 use Rattle.bytes.specs.Bytes.{indexOf, indexAfter, slice}
-use Rattle.lines.specs.Lines.{isSpace, grown, pieces, mostWords, wellBuilt, wordsOf}
+use Rattle.lines.specs.Lines.{grown, cutAt, pieces, mostWords, wellBuilt, wordsOf}
 use Rattle.lines.proofs.Built.{full, built-full}
 
--- a text without a space is one piece
-one-piece : (s : List ℕ) → indexOf 32 s ≡ length s → pieces s ≡ s ∷ []
-unfolding indexOf pieces indexAfter
-one-piece [] e = refl
-one-piece (c ∷ s) e = by (eqb c 32) (one-piece s) e
+-- a text without the byte is one piece
+one-piece : (b : ℕ) (s : List ℕ) → indexOf b s ≡ length s → cutAt b s ≡ s ∷ []
+unfolding indexOf cutAt indexAfter
+one-piece b [] e = refl
+one-piece b (c ∷ s) e = by (eqb c b) (one-piece b s) e
   where
-    by : (b : Bool) → (indexOf 32 s ≡ length s → pieces s ≡ s ∷ []) → indexAfter b (indexOf 32 s) ≡ suc (length s)
-        → cond b ([] ∷ pieces s) (grown c (pieces s)) ≡ (c ∷ s) ∷ []
+    by : (t : Bool) → (indexOf b s ≡ length s → cutAt b s ≡ s ∷ []) → indexAfter t (indexOf b s) ≡ suc (length s)
+        → cond t ([] ∷ cutAt b s) (grown c (cutAt b s)) ≡ (c ∷ s) ∷ []
     by true h e = absurd (omega (arith, e))
     by false h e = rw (h (omega (arith, e)))
 
--- a text with a space is the piece before the first, and the pieces of the rest
-first-piece : (s : List ℕ) → indexOf 32 s < length s → pieces s ≡ take (indexOf 32 s) s ∷ pieces (drop (suc (indexOf 32 s)) s)
-unfolding indexOf pieces indexAfter
-first-piece [] h = absurd (omega arith)
-first-piece (c ∷ s) h = by (eqb c 32) (first-piece s) h
+-- a text with the byte is the piece before the first, and the pieces of the rest
+first-piece : (b : ℕ) (s : List ℕ) → indexOf b s < length s → cutAt b s ≡ take (indexOf b s) s ∷ cutAt b (drop (suc (indexOf b s)) s)
+unfolding indexOf cutAt indexAfter
+first-piece b [] h = absurd (omega arith)
+first-piece b (c ∷ s) h = by (eqb c b) (first-piece b s) h
   where
-    by : (b : Bool) → (indexOf 32 s < length s → pieces s ≡ take (indexOf 32 s) s ∷ pieces (drop (suc (indexOf 32 s)) s))
-        → indexAfter b (indexOf 32 s) < suc (length s)
-        → cond b ([] ∷ pieces s) (grown c (pieces s))
-        ≡ take (indexAfter b (indexOf 32 s)) (c ∷ s) ∷ pieces (drop (suc (indexAfter b (indexOf 32 s))) (c ∷ s))
+    by : (t : Bool) → (indexOf b s < length s → cutAt b s ≡ take (indexOf b s) s ∷ cutAt b (drop (suc (indexOf b s)) s))
+        → indexAfter t (indexOf b s) < suc (length s)
+        → cond t ([] ∷ cutAt b s) (grown c (cutAt b s))
+        ≡ take (indexAfter t (indexOf b s)) (c ∷ s) ∷ cutAt b (drop (suc (indexAfter t (indexOf b s))) (c ∷ s))
     by true i h = refl
     by false i h = rw (i (omega arith))
 
-some-pieces : (s : List ℕ) → 0 < length (pieces s)
-unfolding pieces
-some-pieces [] = omega arith
-some-pieces (c ∷ s) = by (eqb c 32) (pieces s)
+pub some-pieces : (b : ℕ) (s : List ℕ) → 0 < length (cutAt b s)
+unfolding cutAt
+some-pieces b [] = omega arith
+some-pieces b (c ∷ s) = by (eqb c b) (cutAt b s)
   where
-    by : (b : Bool) (ps : List (List ℕ)) → 0 < length (cond b ([] ∷ ps) (grown c ps))
+    by : (t : Bool) (ps : List (List ℕ)) → 0 < length (cond t ([] ∷ ps) (grown c ps))
     by true ps = omega arith
     by false [] = omega arith
     by false (p ∷ ps) = omega arith
@@ -53,27 +53,27 @@ full-cons : (p : List ℕ) (ps : List (List ℕ)) → 0 < length p → full (p �
 full-cons [] ps h = absurd (omega arith)
 full-cons (c ∷ p) ps h = refl
 
--- a search from `start` on: e is where the next space is, or the line's end
-module _ (s : List ℕ) (start e : ℕ) (within : start ≤ length s) (found : e ≡ start + indexOf 32 (slice start (length s) s)) where
-  at : indexOf 32 (drop start s) ≡ e - start
+-- a search from `start` on: e is where the next byte b is, or the text's end
+module _ (b : ℕ) (s : List ℕ) (start e : ℕ) (within : start ≤ length s) (found : e ≡ start + indexOf b (slice start (length s) s)) where
+  at : indexOf b (drop start s) ≡ e - start
   unfolding slice
-  at = let f : e ≡ start + indexOf 32 (drop start s) = found ∙ (rw take-length) in omega arith
+  at = let f : e ≡ start + indexOf b (drop start s) = found ∙ (rw take-length) in omega arith
 
-  pub cut-last : e ≡ length s → pieces (drop start s) ≡ part s start (e - start) ∷ []
+  pub cut-last : e ≡ length s → cutAt b (drop start s) ≡ part s start (e - start) ∷ []
   cut-last h =
       let l : length (drop start s) ≡ e - start = simp length-drop (omega arith) in
-      one-piece (drop start s) (at ∙ sym l)
+      one-piece b (drop start s) (at ∙ sym l)
       ∙ ap (λ (p : List ℕ). p ∷ []) (sym (take-all (e - start) (drop start s) (omega (arith, l))))
 
-  pub cut-next : start ≤ e → e < length s → pieces (drop start s) ≡ part s start (e - start) ∷ pieces (drop (e + 1) s)
+  pub cut-next : start ≤ e → e < length s → cutAt b (drop start s) ≡ part s start (e - start) ∷ cutAt b (drop (e + 1) s)
   cut-next g h =
-      let l : indexOf 32 (drop start s) < length (drop start s) = simp length-drop (omega (arith, at)) in
+      let l : indexOf b (drop start s) < length (drop start s) = simp length-drop (omega (arith, at)) in
       let q : start + suc (e - start) ≡ e + 1 = omega arith in
-      first-piece (drop start s) l ∙ rw (at, drop-drop, q)
+      first-piece b (drop start s) l ∙ rw (at, drop-drop, q)
 
   -- the first piece of the rest, whether more follow or not
   pub cut-first : start ≤ e → e ≤ length s → (p : List (List ℕ) → Type 0)
-      → ((ps : List (List ℕ)) → p (part s start (e - start) ∷ ps)) → p (pieces (drop start s))
+      → ((ps : List (List ℕ)) → p (part s start (e - start) ∷ ps)) → p (cutAt b (drop start s))
   cut-first g h p all = elim (decLt e (length s)) [
     | yes l ↦ rw (cut-next g l) (all _)
     | no l ↦ rw (cut-last (omega arith)) (all _)
@@ -106,7 +106,7 @@ words-pieces s h = by (wellBuilt s) h
 module _ (s : List ℕ) (n start : ℕ) (k : Counted s n start) where
   pub too-many : 9 ≤ n → 0 ≡ length (wordsOf s)
   too-many h =
-      let l : mostWords < length (pieces s) = omega (arith, k .whole, some-pieces (drop start s)) in
+      let l : mostWords < length (pieces s) = omega (arith, k .whole, some-pieces 32 (drop start s)) in
       sym (words-length s false (rw (lt-leb _ _ l) (and-false (full (pieces s)))))
 
   module _ (e : ℕ) (found : e ≡ start + indexOf 32 (slice start (length s) s)) where
@@ -114,12 +114,12 @@ module _ (s : List ℕ) (n start : ℕ) (k : Counted s n start) where
     empty-piece h =
         let z : e - start ≡ 0 = omega arith in
         let none : full (pieces (drop start s)) ≡ false =
-        cut-first s start e (k .within) found (omega arith) (omega (arith, k .within)) (λ ps. full ps ≡ false) (λ ps. rw z) in
+        cut-first 32 s start e (k .within) found (omega arith) (omega (arith, k .within)) (λ ps. full ps ≡ false) (λ ps. rw z) in
         sym (words-length s false (rw (k .filled, none)))
 
     pub last-counted : start < e → e ≡ length s → n < 9 → n + 1 ≡ length (wordsOf s)
     last-counted g h room =
-        let c = cut-last s start e (k .within) found h in
+        let c = cut-last 32 s start e (k .within) found h in
         let p : 0 < length (part s start (e - start)) = simp (length-take, length-drop) (omega arith) in
         let one : length (pieces s) ≡ n + 1 = k .whole ∙ rw c in
         let all : full (pieces s) ≡ true = k .filled ∙ (rw c (full-cons (part s start (e - start)) [] p)) in
@@ -128,7 +128,7 @@ module _ (s : List ℕ) (n start : ℕ) (k : Counted s n start) where
 
     pub next-counted : start < e → e < length s → Counted s (n + 1) (e + 1)
     next-counted g h =
-        let c = cut-next s start e (k .within) found (omega arith) h in
+        let c = cut-next 32 s start e (k .within) found (omega arith) h in
         let p : 0 < length (part s start (e - start)) = simp (length-take, length-drop) (omega arith) in
         record {
           within = omega arith;
@@ -151,15 +151,15 @@ module _ (s : List ℕ) (k i start : ℕ) (r : Reached s k i start) (e : ℕ) (f
   pub no-piece : i < k → e ≡ length s → [] ≡ getD (pieces s) k []
   no-piece l h =
       let m : k - i ≡ suc (k - i - 1) = omega arith in
-      sym (r .same ∙ rw (cut-last s start e (r .within) found h, m))
+      sym (r .same ∙ rw (cut-last 32 s start e (r .within) found h, m))
 
   pub next-piece : i < k → start ≤ e → e < length s → Reached s k (i + 1) (e + 1)
   next-piece l g h =
       let m : k - i ≡ suc (k - (i + 1)) = omega arith in
-      record { within = omega arith; few = omega arith; same = r .same ∙ rw (cut-next s start e (r .within) found g h, m) }
+      record { within = omega arith; few = omega arith; same = r .same ∙ rw (cut-next 32 s start e (r .within) found g h, m) }
 
   pub this-piece : i ≡ k → start ≤ e → e ≤ length s → part s start (e - start) ≡ getD (pieces s) k []
   this-piece l g h =
       let m : k - i ≡ 0 = omega arith in
-      sym (r .same ∙ rw m (cut-first s start e (r .within) found g h
+      sym (r .same ∙ rw m (cut-first 32 s start e (r .within) found g h
       (λ ps. getD ps 0 [] ≡ part s start (e - start)) (λ ps. refl)))

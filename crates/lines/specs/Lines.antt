@@ -33,10 +33,14 @@ abbrev pub grown : ℕ → List (List ℕ) → List (List ℕ)
 grown c [] = (c ∷ []) ∷ []
 grown c (p ∷ ps) = (c ∷ p) ∷ ps
 
--- the line cut at every space; every other byte may stand in a piece
-unfoldable pub pieces : List ℕ → List (List ℕ)
-pieces [] = [] ∷ []
-pieces (c ∷ s) = cond (isSpace c) ([] ∷ pieces s) (grown c (pieces s))
+-- a text cut at every byte b; every other byte may stand in a piece
+unfoldable pub cutAt : ℕ → List ℕ → List (List ℕ)
+cutAt b [] = [] ∷ []
+cutAt b (c ∷ s) = cond (eqb c b) ([] ∷ cutAt b s) (grown c (cutAt b s))
+
+-- the pieces of a line
+abbrev pub pieces : List ℕ → List (List ℕ)
+pieces s = cutAt (code " ") s
 
 -- the longest call is a PREPARE: its word and eight fields
 abbrev pub mostWords : ℕ

@@ -6,10 +6,13 @@ use libc::STDOUT_FILENO;
 ghost use mathlib.Core.Path.{_≡_};
 ghost use mathlib.Core.Bool.{cond};
 ghost use mathlib.Core.List.{[]};
-ghost use Prim.Native.Nat.{_+_, _≤_};
-ghost use lib.ListN.{length};
+ghost use Prim.Native.Nat.{_+_, _-_, _≤_};
+ghost use lib.ListN.{length, take, drop};
+ghost use Rattle.octets.specs.Parts.{part};
 ghost use Rattle.book.specs.Step.{bookOf};
+ghost use Rattle.lines.specs.Lines.{cutAt};
 ghost use Rattle.switch.specs.Switch.{answered, toldOf, Ready, Served};
+ghost use Rattle.switch.specs.Input.{standing, waiting, throughLines, bounded, keptOf};
 
 // The head after a line, and the length of the answer's text.
 struct Told {
@@ -142,7 +145,10 @@ fn each_line(
     out: &mut [u8],
 ) -> Rest
     requires { ⌜ Ready s (now out) ⌝ }
-    ensures { λ r. ⌜ (r .at ≤ length (now (text .entry))) × Ready (r .state) (now (out .exit)) ⌝ }
+    ensures { λ r. ⌜ (r .at ≤ length (now (text .entry))) × Ready (r .state) (now (out .exit))
+        × (waiting (r .state) (now (opened .exit)) (now (ended .exit)) (now (list .exit)) (drop (r .at) (now (text .entry)))
+        ≡ throughLines (s .skips) (standing (s .head) (now (opened .entry)) (now (ended .entry)) (now (list .entry)))
+        (cutAt 10 (now (text .entry)))) ⌝ }
 {
     let mut state = s;
     let mut at = 0;
@@ -161,7 +167,7 @@ fn each_line(
 // All of the output is written out.
 fn written_out(s: State, out: &[u8]) -> State
     requires { ⌜ Ready s (now out) ⌝ }
-    ensures { λ r. ⌜ Ready r (now (out .entry)) ⌝ }
+    ensures { λ r. ⌜ Ready r (now (out .entry)) × (r .head ≡ s .head) × (r .skips ≡ s .skips) ⌝ }
 {
     let head = s.head;
     let skips = s.skips;
@@ -194,7 +200,7 @@ fn last_line(
 // A buffer that is full and has no newline holds the start of a line that is too long: it is dropped, and its rest passed over.
 fn kept(s: State, have: usize, size: usize) -> Window
     requires { ⌜ have ≤ size ⌝ }
-    ensures { λ r. ⌜ (r .have ≤ size) × (r .state .used ≡ s .used) ⌝ }
+    ensures { λ r. ⌜ (r .have ≤ size) × (r .state .used ≡ s .used) × (r ≡ keptOf s have size) ⌝ }
 {
     if have < size {
         return Window {
@@ -218,6 +224,7 @@ fn kept(s: State, have: usize, size: usize) -> Window
 // The bytes from a place up to another, moved to the front.
 fn shift(buf: &mut [u8], from: usize, to: usize)
     requires { ⌜ (from ≤ to) × (to ≤ length (now buf)) ⌝ }
+    ensures { λ _. ⌜ take (to - from) (now (buf .exit)) ≡ part (now (buf .entry)) from (to - from) ⌝ }
 {
     let mut i = 0;
     let mut j = from;
@@ -248,7 +255,11 @@ fn answer_lines(
     out: &mut [u8],
 ) -> Window
     requires { ⌜ (to ≤ length (now buf)) × Ready s (now out) ⌝ }
-    ensures { λ r. ⌜ (r .have ≤ length (now (buf .exit))) × Ready (r .state) (now (out .exit)) ⌝ }
+    ensures { λ r. ⌜ (r .have ≤ length (now (buf .exit))) × Ready (r .state) (now (out .exit))
+        × (waiting (r .state) (now (opened .exit)) (now (ended .exit)) (now (list .exit)) (take (r .have) (now (buf .exit)))
+        ≡ bounded (length (now (buf .entry)))
+        (throughLines (s .skips) (standing (s .head) (now (opened .entry)) (now (ended .entry)) (now (list .entry)))
+        (cutAt 10 (take to (now (buf .entry)))))) ⌝ }
 {
     let r = each_line(s, &buf[0..to], opened, ended, list, out);
     let at = r.at;

@@ -37,7 +37,8 @@ enum-known-written c = search needs
 add-result : tie.Need-add-result
 add-result c =
     let s = c .before .before .before .before .before .before .before .before in
-    let l : c .before .written .given .0 .0 ≡ length (decimalText (s .args .n)) = cc (length-is (c .before .before .before .before .before), c .before .written .given .1) in
+    let e = length-is (c .before .before .before .before .before) in
+    let l : c .before .written .given .0 .0 ≡ length (decimalText (s .args .n)) = cc (c .before .written .given .1) in
     omega (arith, l, ten-digits (s .args .n) (small s))
 
 enum-told : tie.Need-enum-told
