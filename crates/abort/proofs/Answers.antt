@@ -3,7 +3,7 @@ use Prim.Native.Nat.{ℕ}
 use mathlib.Core.Path.{◌≡◌, refl, sym}
 use mathlib.Core.Bool.{true, false}
 use mathlib.Core.List.{List}
-use Rattle.uuid.specs.Id.{id_of}
+use Rattle.uuid_text.specs.Id.{id_of}
 use Rattle.rules.specs.declared.Answer.TheVariants.{NotInForm, OutOfShape}
 use Rattle.rules.specs.Calls.{Text, abort, in_form, code_of}
 use Rattle.shape.specs.Reading.{Book}

@@ -4,8 +4,8 @@ use mathlib.Core.Path.{◌≡◌, sym, ◌∙◌}
 use mathlib.Core.Bool.{Bool, true, false, ◌&&◌}
 use Rattle.octets.proofs.Tests.{and-false, and_assoc, and_right}
 use Rattle.form.specs.Listings.{name_form, id_form, code_form}
-use Rattle.uuid.specs.declared.IdRead.{IdRead}
-use Rattle.uuid.specs.Id.{id_of, read_id}
+use Rattle.uuid_text.specs.declared.IdRead.{IdRead}
+use Rattle.uuid_text.specs.Id.{id_of, read_id}
 use Rattle.tokens.specs.declared.CodeRead.TheVariants.{Value, Refused}
 use Rattle.tokens.specs.Code.{read_code}
 use Rattle.rules.specs.Calls.{Text, abort, is_of, in_form}

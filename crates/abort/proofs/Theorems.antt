@@ -5,7 +5,7 @@ use mathlib.Core.Logic.{inl, inr}
 use lib.ListN.{length}
 use Rattle.octets.specs.Parts.{zeros}
 use Rattle.octets.proofs.Stores.{length-zeros}
-use Rattle.uuid.specs.Id.{id_of}
+use Rattle.uuid_text.specs.Id.{id_of}
 use Rattle.record.specs.Layout.{Row, num, ended_row, payer_field}
 use Rattle.record.proofs.Fields.{length-ended, ended_state, ended_by}
 use Rattle.rules.specs.Answers.{is_done}

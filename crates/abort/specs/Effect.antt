@@ -1,6 +1,6 @@
 -- Abort: "RESERVED: aborted with that code, the payer's position falls".
 use Rattle.octets.specs.Parts.{zeros}
-use Rattle.uuid.specs.Id.{id_of}
+use Rattle.uuid_text.specs.Id.{id_of}
 use Rattle.record.specs.Layout.{num, ended_row, payer_field}
 use Rattle.rules.specs.Calls.{Text, abort, code_of}
 use Rattle.shape.specs.Reading.{Book}

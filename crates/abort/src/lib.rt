@@ -95,7 +95,7 @@ fn in_shape(
     ensures { outcome result opened.new ended.new
         ≡ abort_step (book_of h opened.old ended.old) sender.now id.now code.now }
 {
-    let id_read = uuid::read_id(id);
+    let id_read = uuid_text::read_id(id);
     let id_verdict = id_read.verdict;
     if !(book::fits(tokens::read_name(sender)) & book::fits(id_verdict)) {
         return book::reply(h, Answer::NotInForm, 0);

@@ -4,8 +4,8 @@ use mathlib.Core.Bool.{Bool, true, ◌&&◌}
 use lib.ListN.{length}
 use Rattle.octets.proofs.Tests.{and_assoc, and_left, and_right}
 use Rattle.form.specs.Listings.{name_form, id_form, condition_form}
-use Rattle.uuid.specs.declared.IdRead.{IdRead}
-use Rattle.uuid.specs.Id.{id_of, read_id}
+use Rattle.uuid_text.specs.declared.IdRead.{IdRead}
+use Rattle.uuid_text.specs.Id.{id_of, read_id}
 use Rattle.base64url.specs.declared.ConditionRead.{ConditionRead}
 use Rattle.base64url.specs.Condition.{read_condition}
 use Rattle.base64url.proofs.Theorems.{held}

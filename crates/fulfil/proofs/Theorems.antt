@@ -3,7 +3,7 @@ use mathlib.Core.Path.{◌≡◌, sym, ◌∙◌}
 use mathlib.Core.Bool.{true, false}
 use mathlib.Core.Logic.{inl}
 use lib.ListN.{length}
-use Rattle.uuid.specs.Id.{id_of}
+use Rattle.uuid_text.specs.Id.{id_of}
 use Rattle.record.specs.Layout.{Row, num, ended_row, payee_field}
 use Rattle.record.proofs.Fields.{length-ended, ended_state, ended_by}
 use Rattle.rules.specs.Answers.{is_done}

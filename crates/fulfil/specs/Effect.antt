@@ -1,5 +1,5 @@
 -- Fulfil: "commit: the payee's position falls by the amount".
-use Rattle.uuid.specs.Id.{id_of}
+use Rattle.uuid_text.specs.Id.{id_of}
 use Rattle.record.specs.Layout.{num, ended_row, payee_field}
 use Rattle.rules.specs.Calls.{Text, fulfil, condition_of}
 use Rattle.shape.specs.Reading.{Book}

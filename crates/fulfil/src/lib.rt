@@ -122,7 +122,7 @@ fn in_shape(
     ensures { outcome result opened.new ended.new ≡ fulfil_step (book_of h opened.old ended.old)
         sender.now id.now fulfilment.now }
 {
-    let id_read = uuid::read_id(id);
+    let id_read = uuid_text::read_id(id);
     let read = base64url::read_condition(fulfilment);
     let id_verdict = id_read.verdict;
     let verdict = read.verdict;

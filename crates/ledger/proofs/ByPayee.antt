@@ -9,7 +9,7 @@ use borrow.Author.Tests.{lt-ltb}
 use Rattle.octets.specs.Parts.{zeros}
 use Rattle.octets.proofs.Stores.{length-zeros}
 use Rattle.form.specs.Listings.{name_form, id_form, code_form}
-use Rattle.uuid.specs.Id.{id_of}
+use Rattle.uuid_text.specs.Id.{id_of}
 use Rattle.record.specs.Layout.{Row, num, ended_row, payer_field, payee_field}
 use Rattle.record.specs.Rows.{row}
 use Rattle.rules.specs.declared.Answer.{Answer}

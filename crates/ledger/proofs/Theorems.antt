@@ -6,7 +6,7 @@ use mathlib.Core.Bool.{true}
 use mathlib.Core.List.{List}
 use mathlib.Core.Option.{some}
 use lib.ListN.{length}
-use Rattle.uuid.specs.Id.{id_of}
+use Rattle.uuid_text.specs.Id.{id_of}
 use Rattle.datetime.specs.Instant.{instant_of}
 use Rattle.rules.specs.Answers.{is_done}
 use Rattle.rules.specs.Calls.{Text, PrepareText, condition_of, code_of}

@@ -1,7 +1,7 @@
 -- Lookup: "A lookup copies nothing: the answer is that record's own 160 bytes, in whichever of the two books holds it; refused, an empty
 -- part. Number and part may be asked for apart."
 use Rattle.std.specs.Prelude.{ℕ, cond, List, []}
-use Rattle.uuid.specs.Id.{id_of}
+use Rattle.uuid_text.specs.Id.{id_of}
 use Rattle.record.specs.Rows.{row}
 use Rattle.rules.specs.Answers.{is_done}
 use Rattle.rules.specs.Calls.{Text, lookup}

@@ -19,7 +19,7 @@ pub fn place(h: Head, opened: &[u8], ended: &[u8], id: &[u8]) -> Place
     if !shape::is_sound(h, opened, ended) {
         return Place::Nowhere;
     }
-    let read = uuid::read_id(id);
+    let read = uuid_text::read_id(id);
     let verdict = read.verdict;
     if !book::fits(verdict) {
         return Place::Nowhere;
@@ -60,7 +60,7 @@ pub fn lookup(h: Head, opened: &[u8], ended: &[u8], id: &[u8]) -> Answered
     if !shape::is_sound(h, opened, ended) {
         return book::reply(h, Answer::OutOfShape, 0);
     }
-    let read = uuid::read_id(id);
+    let read = uuid_text::read_id(id);
     let verdict = read.verdict;
     if !book::fits(verdict) {
         return book::reply(h, Answer::NotInForm, 0);

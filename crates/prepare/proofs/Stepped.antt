@@ -4,7 +4,7 @@ use mathlib.Core.Path.{◌≡◌, ap, sym, ◌∙◌}
 use mathlib.Core.Bool.{true, false, cond, not, ◌&&◌}
 use native.Mathlib.Omega.{arith}
 use Rattle.amount.specs.Amount.{ten_thousandths, amount_of}
-use Rattle.uuid.specs.Id.{id_of}
+use Rattle.uuid_text.specs.Id.{id_of}
 use Rattle.datetime.specs.Instant.{instant_of}
 use Rattle.account.specs.Position.{worth}
 use Rattle.rules.specs.Answers.{is_done}

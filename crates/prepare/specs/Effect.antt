@@ -4,7 +4,7 @@ use Rattle.std.specs.Prelude.{ℕ, suc, ◌+◌, ◌*◌}
 use Rattle.std.proofs.lemmas.List.Edits.{sets}
 use Rattle.octets.specs.Lists.{index}
 use Rattle.amount.specs.Amount.{ten_thousandths, amount_of}
-use Rattle.uuid.specs.Id.{id_of}
+use Rattle.uuid_text.specs.Id.{id_of}
 use Rattle.datetime.specs.Instant.{instant_of}
 use Rattle.account.specs.declared.Head.{Head}
 use Rattle.account.specs.Position.{raised_by}

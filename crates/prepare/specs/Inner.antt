@@ -8,7 +8,7 @@ use Rattle.octets.specs.Parts.{same, zeros}
 use Rattle.form.specs.Listings.{amount_form, id_form, date_time_form, condition_form, packet_form, name_form, currency_form}
 use Rattle.amount.specs.Amount.{ten_thousandths, amount_of as held_amount}
 use Rattle.amount.specs.declared.Amount.{Amount}
-use Rattle.uuid.specs.Id.{id_of}
+use Rattle.uuid_text.specs.Id.{id_of}
 use Rattle.datetime.specs.Instant.{instant_of}
 use Rattle.account.specs.declared.Head.{Head}
 use Rattle.account.specs.Position.{worth, value, Room, InRange}

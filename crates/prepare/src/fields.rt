@@ -88,7 +88,7 @@ pub(crate) fn content(
     ensures { Told id.now amount.now condition.now expiration.now
         packet.now result }
 {
-    let id_read = uuid::read_id(id);
+    let id_read = uuid_text::read_id(id);
     let amount_read = amount_field(amount);
     let condition_read = base64url::read_condition(condition);
     let expiration_read = instant_field(expiration);

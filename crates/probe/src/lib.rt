@@ -52,7 +52,7 @@ pub extern "C" fn probe_write_amount(units: u64, remainder: u16, out: &mut [u8])
 
 #[unsafe(no_mangle)]
 pub extern "C" fn probe_read_id(s: &[u8], out: &mut [u8]) -> u64 {
-    let read = uuid::read_id(s);
+    let read = uuid_text::read_id(s);
     let verdict = read.verdict;
     let id = read.id;
     match verdict {
@@ -66,7 +66,7 @@ pub extern "C" fn probe_read_id(s: &[u8], out: &mut [u8]) -> u64 {
 
 #[unsafe(no_mangle)]
 pub extern "C" fn probe_write_id(id: &[u8], out: &mut [u8]) -> u64 {
-    packed(uuid::write_id(id, out))
+    packed(uuid_text::write_id(id, out))
 }
 
 #[unsafe(no_mangle)]

@@ -8,7 +8,7 @@ use lib.Dec.{eqb, leb, ltb}
 use lib.Signed.{le_z}
 use Rattle.octets.specs.Parts.{same}
 use Rattle.amount.specs.Amount.{ten_thousandths}
-use Rattle.uuid.specs.Id.{id_of}
+use Rattle.uuid_text.specs.Id.{id_of}
 use Rattle.rules.specs.declared.Answer.{Answer}
 use Rattle.rules.specs.declared.Answer.TheVariants.{NotInForm, NoPayer, NoPayee, PayerIsPayee, OtherCurrency, OtherContent, Expired, OpenBookFull, NoPlaceLeft, CapPassed, NotThePayee, NoMatch, NameHeld, CapTooHigh, OutOfShape, Resend}
 use Rattle.rules.specs.Answers.{is_done}

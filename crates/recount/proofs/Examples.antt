@@ -10,7 +10,7 @@ use Rattle.octets.specs.Ascii.{ascii}
 use Rattle.octets.specs.Build.{build}
 use Rattle.octets.specs.Numbers.{number_from, big_endian}
 use Rattle.octets.specs.Parts.{same}
-use Rattle.uuid.specs.Id.{id_of, byte_at}
+use Rattle.uuid_text.specs.Id.{id_of, byte_at}
 use Rattle.datetime.specs.Calendar.{before}
 use Rattle.datetime.specs.Instant.{instant_of, time_of, offset_after, epoch}
 use Rattle.base64url.specs.Letters.{alphabet, place_from, value_of}

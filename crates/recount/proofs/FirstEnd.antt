@@ -7,7 +7,7 @@ use mathlib.Core.Option.{none, some}
 use lib.ListN.{length}
 use Rattle.octets.specs.Lists.{first}
 use Rattle.octets.proofs.Equal.{same_refl}
-use Rattle.uuid.specs.Id.{id_of}
+use Rattle.uuid_text.specs.Id.{id_of}
 use Rattle.rules.specs.Answers.{is_done}
 use Rattle.rules.specs.Calls.{PrepareText, content_of}
 use Rattle.rules.specs.Calls as rules

@@ -7,7 +7,7 @@ use mathlib.Core.Option.{Option, none, some}
 use lib.IntN.{pos}
 use Rattle.octets.specs.Lists.{all}
 use Rattle.form.specs.Listings.{id_form}
-use Rattle.uuid.specs.Id.{id_of}
+use Rattle.uuid_text.specs.Id.{id_of}
 use Rattle.rules.specs.Answers.{is_done}
 use Rattle.rules.specs.Calls.{Text, PrepareText, content_of, is_of, in_form}
 use Rattle.rules.specs.Calls as rules

@@ -8,7 +8,7 @@ use native.Mathlib.Omega.{arith}
 use lib.ListN.{length}
 use Rattle.octets.specs.Lists.{sum}
 use Rattle.octets.specs.Parts.{same}
-use Rattle.uuid.specs.Id.{id_of}
+use Rattle.uuid_text.specs.Id.{id_of}
 use Rattle.rules.specs.declared.Answer.{Answer}
 use Rattle.rules.specs.Answers.{is_done}
 use Rattle.rules.specs.Calls.{Text, PrepareText, Call, condition_of, code_of}

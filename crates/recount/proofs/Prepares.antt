@@ -11,7 +11,7 @@ use Rattle.octets.specs.Lists.{first, count, sum}
 use Rattle.octets.specs.Parts.{same}
 use Rattle.octets.proofs.Equal.{same_equal}
 use Rattle.amount.specs.Amount.{ten_thousandths}
-use Rattle.uuid.specs.Id.{id_of}
+use Rattle.uuid_text.specs.Id.{id_of}
 use Rattle.rules.specs.declared.Answer.{Answer}
 use Rattle.rules.specs.Calls.{PrepareText, prepare, content_of}
 use Rattle.rules.specs.View.{reserved, Transfer}

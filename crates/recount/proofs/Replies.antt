@@ -13,7 +13,7 @@ use Rattle.octets.specs.Numbers.{big_endian}
 use Rattle.octets.specs.Parts.{same}
 use Rattle.octets.proofs.Tests.{and-false}
 use Rattle.amount.specs.Amount.{ten_thousandths}
-use Rattle.uuid.specs.Id.{id_of}
+use Rattle.uuid_text.specs.Id.{id_of}
 use Rattle.datetime.specs.Instant.{instant_of}
 use Rattle.record.specs.Layout.{num, number_field}
 use Rattle.rules.specs.declared.Answer.{Answer}

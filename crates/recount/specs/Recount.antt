@@ -10,7 +10,7 @@ use Rattle.octets.specs.Lists.{first, keep, count, sum}
 use Rattle.octets.specs.Numbers.{big_endian}
 use Rattle.octets.specs.Parts.{same}
 use Rattle.amount.specs.Amount.{ten_thousandths}
-use Rattle.uuid.specs.Id.{id_of}
+use Rattle.uuid_text.specs.Id.{id_of}
 use Rattle.datetime.specs.Instant.{instant_of}
 use Rattle.rules.specs.declared.Answer.{Answer}
 use Rattle.rules.specs.Answers.{is_done}

@@ -6,7 +6,7 @@ use Rattle.octets.specs.Ascii.{ascii}
 use Rattle.octets.specs.Build.{build}
 use Rattle.octets.specs.Numbers.{number}
 use Rattle.octets.specs.Parts.{part}
-use Rattle.uuid.specs.Id.{id_of}
+use Rattle.uuid_text.specs.Id.{id_of}
 use Rattle.rules.specs.Answers.{number as answer_number, code}
 use Rattle.rules.specs.Calls.{Text, PrepareText, condition_for}
 use Rattle.rules.specs.View.{State, committed, expired}

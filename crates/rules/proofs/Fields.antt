@@ -14,8 +14,8 @@ use Rattle.amount.specs.declared.Amount.{Amount}
 use Rattle.amount.specs.declared.AmountRead.TheVariants as amounts
 use Rattle.amount.specs.Amount as amount
 use Rattle.amount.specs.Amount.{ten_thousandths, amount_of, read_amount}
-use Rattle.uuid.specs.Id as ids
-use Rattle.uuid.specs.Id.{id_of, read_id}
+use Rattle.uuid_text.specs.Id as ids
+use Rattle.uuid_text.specs.Id.{id_of, read_id}
 use Rattle.datetime.specs.declared.InstantRead.TheVariants as instants
 use Rattle.datetime.specs.Instant.{instant_of, value_of, read_date_time}
 use Rattle.base64url.specs.Condition as conditions

@@ -6,7 +6,7 @@ use Rattle.form.specs.Listings.{amount_form, id_form, date_time_form, condition_
 use Rattle.form.specs.declared.Verdict.{Verdict}
 use Rattle.form.specs.declared.Verdict.TheVariants.{Fits, Stops}
 use Rattle.amount.specs.Amount.{ten_thousandths}
-use Rattle.uuid.specs.Id.{id_of}
+use Rattle.uuid_text.specs.Id.{id_of}
 use Rattle.datetime.specs.Instant.{instant_of}
 use Rattle.base64url.specs.Letters.{value_of}
 use Rattle.base64url.specs.Condition.{bytes_of}

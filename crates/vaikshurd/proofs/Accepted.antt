@@ -11,7 +11,7 @@ use lib.ListN.{length, get_or}
 use borrow.Author.Tests.{eqb-true, leb-false, ltb-true}
 use Rattle.form.specs.Listings.{name_form, amount_form}
 use Rattle.amount.specs.Amount.{ten_thousandths}
-use Rattle.uuid.specs.Id.{id_of}
+use Rattle.uuid_text.specs.Id.{id_of}
 use Rattle.datetime.specs.Instant.{instant_of}
 use Rattle.account.specs.Head.{account_at, place_of}
 use Rattle.account.specs.Position.{raised_by}

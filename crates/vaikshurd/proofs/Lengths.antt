@@ -13,8 +13,8 @@ use Rattle.form.specs.declared.Written.TheVariants.{NotInForm, OutsideYears}
 use Rattle.form.specs.Writing.{into_room}
 use Rattle.amount.specs.declared.Amount.{Amount}
 use Rattle.amount.specs.Amount.{digit, whole_text, places, fraction_text, amount_text, write_amount}
-use Rattle.uuid.specs.Id.{id_text, in_form, write_id}
-use Rattle.uuid.proofs.Spelled.{whole}
+use Rattle.uuid_text.specs.Id.{id_text, in_form, write_id}
+use Rattle.uuid_text.proofs.Spelled.{whole}
 use Rattle.datetime.specs.Instant.{date_time_text, in_years, write_date_time}
 use Rattle.base64url.specs.Condition.{condition_text, write_condition}
 use Rattle.base64url.proofs.Write.{length-text}

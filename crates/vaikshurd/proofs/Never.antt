@@ -11,7 +11,7 @@ use borrow.Author.Tests.{not-true, eqb-false}
 use Rattle.octets.specs.Lists.{all}
 use Rattle.octets.specs.Parts.{same}
 use Rattle.amount.specs.Amount.{ten_thousandths}
-use Rattle.uuid.specs.Id.{id_of}
+use Rattle.uuid_text.specs.Id.{id_of}
 use Rattle.datetime.specs.Instant.{instant_of}
 use Rattle.rules.specs.declared.Answer.{Answer}
 use Rattle.rules.specs.declared.Answer.TheVariants.{Done, NotInForm, NoPayer, NoPayee, PayerIsPayee, OtherCurrency, OtherContent, Expired}

@@ -1,7 +1,7 @@
 // The readers: a text in form is read into the lent numbers or bytes; any other answers 1 and writes nothing.
 ghost use Rattle.std.specs.Prelude.{◌≡◌};
 ghost use Rattle.amount.specs.Amount.{read_amount};
-ghost use Rattle.uuid.specs.Id.{read_id};
+ghost use Rattle.uuid_text.specs.Id.{read_id};
 ghost use Rattle.datetime.specs.Instant.{read_date_time};
 ghost use Rattle.base64url.specs.Condition.{read_condition};
 ghost use Rattle.vaikshurd.specs.Texts.{amount_left, instant_left, bytes_left};
@@ -64,7 +64,7 @@ pub extern "C" fn vaik_read_id(text: &[u8], id: &mut [u8]) -> u64
     ensures { (result, id.new)
         ≡ (let read = read_id text.now in bytes_left read.verdict read.id id.old) }
 {
-    let read = uuid::read_id(text);
+    let read = uuid_text::read_id(text);
     let verdict = read.verdict;
     let value = read.id;
     hand_over(verdict, &value, id)

@@ -1,7 +1,7 @@
 // The writers: a value's text at the front of the lent buffer; bytes past the text stay. The text's length is in the place of the mark.
 ghost use Rattle.std.specs.Prelude.{◌≡◌, length};
 ghost use Rattle.amount.specs.Amount.{write_amount, amount_text};
-ghost use Rattle.uuid.specs.Id.{write_id, id_text};
+ghost use Rattle.uuid_text.specs.Id.{write_id, id_text};
 ghost use Rattle.datetime.specs.Instant.{write_date_time, date_time_text};
 ghost use Rattle.base64url.specs.Condition.{write_condition, condition_text};
 ghost use Rattle.vaikshurd.specs.Texts.{amount_held, written_word, text_left};
@@ -40,7 +40,7 @@ pub extern "C" fn vaik_write_id(id: &[u8], out: &mut [u8]) -> u64
     ensures { (result, out.new)
         ≡ text_left (write_id id.now (length out.old)) (id_text id.now) out.old }
 {
-    written(uuid::write_id(id, out))
+    written(uuid_text::write_id(id, out))
 }
 
 // DateTime: 22, 23.

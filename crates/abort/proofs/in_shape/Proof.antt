@@ -3,7 +3,7 @@ use mathlib.Core.Path.{◌≡◌, sym, ap, ap₂, ◌∙◌}
 use mathlib.Core.Bool.{◌&&◌}
 use borrow.Author.Tests.{not-true, not-false}
 use Rattle.rules.specs.Calls.{fits}
-use Rattle.uuid.specs.declared.IdRead.{IdRead}
+use Rattle.uuid_text.specs.declared.IdRead.{IdRead}
 use Rattle.rules.proofs.Fields.{id_verdict, code-value}
 use Rattle.shape.specs.Reading.{Book}
 use Rattle.book.specs.Step.{book_of}

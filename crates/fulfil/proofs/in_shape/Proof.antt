@@ -2,7 +2,7 @@
 use mathlib.Core.Path.{◌≡◌, sym, ap, ap₂, ◌∙◌}
 use mathlib.Core.Bool.{Bool, true, false, ◌&&◌}
 use borrow.Author.Tests.{not-true, not-false}
-use Rattle.uuid.specs.declared.IdRead.{IdRead}
+use Rattle.uuid_text.specs.declared.IdRead.{IdRead}
 use Rattle.base64url.specs.declared.ConditionRead.{ConditionRead}
 use Rattle.rules.specs.Calls.{fits}
 use Rattle.rules.proofs.Fields.{id_verdict, condition_verdict}

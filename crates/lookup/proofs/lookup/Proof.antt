@@ -3,7 +3,7 @@ use mathlib.Core.Path.{◌≡◌, ap, sym, ◌∙◌}
 use mathlib.Core.Bool.{true}
 use borrow.Author.Tests.{not-true, not-false}
 use Rattle.form.specs.Listings.{id_form}
-use Rattle.uuid.specs.declared.IdRead.{IdRead}
+use Rattle.uuid_text.specs.declared.IdRead.{IdRead}
 use Rattle.rules.specs.Calls.{fits, is_of}
 use Rattle.rules.proofs.Fields.{id_verdict, id_bytes}
 use Rattle.shape.specs.Reading.{Book}
