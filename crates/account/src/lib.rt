@@ -1,4 +1,5 @@
 // The accounts and the head of a book, by value: positions that rise and fall, and the search for a name.
+#![tactic(auto)]
 ghost use Rattle.std.specs.Prelude.{◌≡◌, ◌≤◌, ◌<◌, length, take};
 ghost use Rattle.octets.specs.Parts.{same};
 ghost use Rattle.account.specs.Position.{raised_by, lowered_by, within, Room, InRange};
@@ -7,13 +8,13 @@ ghost use Rattle.account.specs.Head.{named, place_of, with_position, Named};
 use amount::Amount;
 
 // What an account has taken out of the system less what it has brought in: whole units rounded down, and a remainder 0 to 9,999.
-#[derive(Drop)]
+#[derive(Clone, Copy)]
 pub struct Position {
     pub units: i64,
     pub remainder: u16,
 }
 
-#[derive(Drop)]
+#[derive(Clone, Copy)]
 pub struct Account {
     pub name: [u8; 32],
     pub length: u8,
@@ -21,7 +22,7 @@ pub struct Account {
     pub position: Position,
 }
 
-#[derive(Drop)]
+#[derive(Clone, Copy)]
 pub struct Head {
     pub accounts: [Account; 32],
     pub count: u8,

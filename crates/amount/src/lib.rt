@@ -1,4 +1,5 @@
 // The Amount text of 001, 4.2.13: read to whole units and ten-thousandths, and written back.
+#![tactic(auto)]
 ghost use Rattle.std.specs.Prelude.{◌≡◌, ℕ, ◌+◌, ◌-◌, ◌*◌, ◌≤◌, ◌<◌, ◌^◌, min, ◌++◌, length, drop, get_or};
 ghost use Rattle.std.proofs.lemmas.List.Edits.{sets};
 ghost use Rattle.octets.specs.Decimal.{in_digits};
@@ -10,28 +11,28 @@ ghost use Rattle.amount.specs.Digits.{pointed, Tables};
 use form::Written;
 
 // So many whole units and ten-thousandths of a unit.
-#[derive(Drop)]
+#[derive(Clone, Copy)]
 pub struct Amount {
     pub units: u64,
     pub remainder: u16,
 }
 
 // What a text reads to: an amount, or the offset of the first byte at which no amount goes on.
-#[derive(Drop)]
+#[derive(Clone, Copy)]
 pub enum AmountRead {
     Value(Amount),
     Refused(usize),
 }
 
 // The digits before the point: their number, and the offset of the first byte past them.
-#[derive(Drop)]
+#[derive(Clone, Copy)]
 struct Whole {
     units: u64,
     end: usize,
 }
 
 // The digits after the point, with no 0 at the end: so many places of a number.
-#[derive(Drop)]
+#[derive(Clone, Copy)]
 struct Places {
     number: u64,
     count: usize,

@@ -1,4 +1,5 @@
 // base64url: a condition's or fulfilment's text of 43 letters and its 32 bytes, and the form of a packet.
+#![tactic(auto)]
 ghost use Rattle.std.specs.Prelude.{◌≡◌, ◌++◌, map, ◌+◌, ◌-◌, ◌*◌, ◌/◌, ◌%◌, ◌≤◌, ◌<◌, length, get_or, drop, take};
 ghost use Rattle.std.proofs.lemmas.List.Edits.{sets};
 ghost use Rattle.octets.specs.Bytes.{Bytes};
@@ -27,14 +28,14 @@ const VALUE: [u8; 256] = *b"\
 const LETTER: [u8; 64] = *b"ABCDEFGHIJKLMNOPQRSTUVWXYZabcdefghijklmnopqrstuvwxyz0123456789-_";
 
 // A text's verdict, and the bytes of a text of the form (zeros of any other).
-#[derive(Drop)]
+#[derive(Clone, Copy)]
 pub struct ConditionRead {
     pub verdict: Verdict,
     pub bytes: [u8; 32],
 }
 
 // The three bytes of four characters; zeros where they are not all letters.
-#[derive(Drop)]
+#[derive(Clone, Copy)]
 struct Group {
     letters: bool,
     first: u8,

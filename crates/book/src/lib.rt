@@ -1,4 +1,5 @@
 // What the calls share: an answer with the head that it leaves, the record of an id, the payee's own word, the end of a record.
+#![tactic(auto)]
 ghost use Rattle.std.specs.Prelude.{◌≡◌, ◌+◌, ◌*◌, ◌≤◌, ◌<◌, length, get_or, []};
 ghost use Rattle.std.proofs.lemmas.List.Edits.{sets};
 ghost use Rattle.octets.specs.Parts.{same, zeros};
@@ -16,7 +17,7 @@ use record::Ending;
 use rules::Answer;
 
 // What a call hands back beside the bytes that it was lent.
-#[derive(Drop)]
+#[derive(Clone, Copy)]
 pub struct Answered {
     pub answer: Answer,
     pub mark: u32,
@@ -24,7 +25,7 @@ pub struct Answered {
 }
 
 // What is decided with the books as they are; the slot counts where the answer is 0.
-#[derive(Drop)]
+#[derive(Clone, Copy)]
 pub struct Decision {
     pub answer: Answer,
     pub mark: u32,
@@ -32,7 +33,7 @@ pub struct Decision {
 }
 
 // Where the record of an id is: a slot of the open book, a place of the finished book, or in neither.
-#[derive(Drop)]
+#[derive(Clone, Copy)]
 pub enum Place {
     Opened(usize),
     Ended(usize),

@@ -5,7 +5,7 @@ ghost use Rattle.datetime.specs.Calendar.{last_begun, year_of, month_of, day_of}
 ghost use Rattle.datetime.specs.Plain.{leap_in, month_length, even_day, before_century};
 
 // A date; the year by its century, which is counted from 0, and its place in it.
-#[derive(Drop)]
+#[derive(Clone, Copy)]
 pub struct Date {
     pub century: u64,
     pub year: u64,
@@ -13,7 +13,7 @@ pub struct Date {
     pub day: u64,
 }
 
-#[derive(Drop)]
+#[derive(Clone, Copy)]
 struct Year {
     century: u64,
     year: u64,

@@ -1,4 +1,5 @@
 // DateTime texts (001, listing 12): milliseconds from 1970-01-01T00:00:00.000Z read from a text, and written as one.
+#![tactic(auto)]
 mod calendar;
 mod reader;
 mod writer;
@@ -8,7 +9,7 @@ ghost use Rattle.form.specs.Writing.{buffer_after};
 ghost use Rattle.datetime.specs.Instant.{read_date_time, date_time_text, write_date_time};
 
 // What reading answers: the instant, or the offset at which no text of the form goes on.
-#[derive(Drop)]
+#[derive(Clone, Copy)]
 pub enum InstantRead {
     Value(i64),
     Refused(usize),

@@ -1,4 +1,5 @@
 // What a line answers: the call that its word names, on the fields that follow.
+#![tactic(auto)]
 mod words;
 
 ghost use Rattle.std.specs.Prelude.{◌≡◌};
@@ -20,7 +21,7 @@ use rules::Answer;
 use words::Word;
 
 // What a line hands back beside the bytes that were lent, and how many of the list's numbers are shown with it.
-#[derive(Drop)]
+#[derive(Clone, Copy)]
 pub struct Reply {
     pub answer: Answer,
     pub mark: u32,

@@ -3,7 +3,7 @@ ghost use Rattle.std.specs.Prelude.{◌≡◌};
 ghost use Rattle.desk.specs.Words.{word_of, fields_in};
 
 // The call that a word names; a lookup has no line.
-#[derive(Drop)]
+#[derive(Clone, Copy)]
 pub enum Word {
     Open,
     Join,

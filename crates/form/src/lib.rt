@@ -1,5 +1,6 @@
 // The published forms of the field texts, judged by tables: whether a text is of the form and, if not, at which byte no text of
 // the form goes on.
+#![tactic(auto)]
 mod tables;
 
 ghost use Rattle.std.specs.Prelude.{◌≡◌, get_or};
@@ -9,14 +10,14 @@ ghost use Rattle.form.specs.Listings.{date_time_form, id_form};
 ghost use Rattle.form.specs.Machine.{entry, machine};
 
 // What a form says of a text: it is of the form, or no text of the form goes on at this offset (the length, where the text stops too soon).
-#[derive(Drop)]
+#[derive(Clone, Copy)]
 pub enum Verdict {
     Fits,
     Stops(usize),
 }
 
 // What a writer answers: the length of the text it wrote, or why it wrote nothing.
-#[derive(Drop)]
+#[derive(Clone, Copy)]
 pub enum Written {
     Length(usize),
     NotInForm,

@@ -1,4 +1,5 @@
 // A line, its bytes without the newline, cut into a word and its fields at single spaces.
+#![tactic(auto)]
 ghost use Rattle.std.specs.Prelude.{◌≡◌, [], length, get_or};
 ghost use Rattle.lines.specs.Lines.{pieces, words_of};
 

@@ -1,4 +1,5 @@
 // Lookup: the record of an id, its own 160 bytes.
+#![tactic(auto)]
 ghost use Rattle.std.specs.Prelude.{◌≡◌, true, ◌+◌, ◌*◌, ◌≤◌, length};
 ghost use Rattle.record.specs.Layout.{num, number_field};
 ghost use Rattle.record.specs.Rows.{row};

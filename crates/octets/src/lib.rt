@@ -1,5 +1,7 @@
 // What every floor shares about bytes: reads, comparisons, stores and numbers in bytes, and in specs/ and proofs/ the definitions and laws
 // of lists of bytes.
+#![tactic(auto)]
+
 ghost use Rattle.std.specs.Prelude.{◌≡◌, ◌+◌, ◌≤◌, ◌<◌, ◌^◌, length, get_or};
 ghost use Rattle.std.proofs.lemmas.List.Edits.{sets};
 ghost use Rattle.std.specs.Int.{w64};

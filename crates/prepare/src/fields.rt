@@ -11,19 +11,19 @@ use datetime::InstantRead;
 use record::Content;
 
 // Whether every field is in form, and then what they say.
-#[derive(Drop)]
+#[derive(Clone, Copy)]
 pub(crate) struct Read {
     pub ok: bool,
     pub content: Content,
 }
 
-#[derive(Drop)]
+#[derive(Clone, Copy)]
 struct AmountField {
     ok: bool,
     amount: Amount,
 }
 
-#[derive(Drop)]
+#[derive(Clone, Copy)]
 struct InstantField {
     ok: bool,
     instant: i64,

@@ -1,4 +1,5 @@
 // Prepare: the payer's amount is reserved under a new record, in the lowest free slot.
+#![tactic(auto)]
 mod fields;
 
 ghost use Rattle.std.specs.Prelude.{◌≡◌, true, cond, eqb, ◌+◌, ◌*◌, ◌≤◌, ◌<◌, length};

@@ -1,5 +1,6 @@
 // The readers, the writers and the hash as C calls, for the tests and benchmarks outside Rattle. Proved safe and ending: what they
 // hand over is compared there, byte for byte, with a second implementation.
+#![tactic(auto)]
 use amount::{Amount, AmountRead};
 use datetime::InstantRead;
 use form::{Verdict, Written};

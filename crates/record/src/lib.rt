@@ -1,4 +1,5 @@
 // One record of a book: its 160 bytes, read and written (01, "The two books").
+#![tactic(auto)]
 ghost use Rattle.std.specs.Prelude.{◌≡◌, [], ◌∷◌, ◌+◌, ◌*◌, ◌≤◌, ◌<◌, ◌^◌, length};
 ghost use Rattle.std.proofs.lemmas.List.Edits.{sets};
 ghost use Rattle.std.specs.Int.{w64};
@@ -13,7 +14,7 @@ ghost use Rattle.record.specs.Rows.{rows, row, holds};
 use amount::Amount;
 
 // What a prepare says, without its parties.
-#[derive(Drop)]
+#[derive(Clone, Copy)]
 pub struct Content {
     pub id: [u8; 16],
     pub amount: Amount,
@@ -176,7 +177,7 @@ pub fn write_new(part: &mut [u8], c: Content, payer: u8, payee: u8, number: u32)
 }
 
 // How a record ends: the bytes that are set anew.
-#[derive(Drop)]
+#[derive(Clone, Copy)]
 pub struct Ending {
     pub state: u8,
     pub by: u8,

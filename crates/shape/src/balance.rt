@@ -10,7 +10,7 @@ use account::{Head, Position};
 
 // The units above zero, the units below it, and the remainders, each together. Not ok where so much lies below zero that nothing can
 // make up for it, so that the sums stay within 64 bits.
-#[derive(Drop)]
+#[derive(Clone, Copy)]
 struct Sums {
     ok: bool,
     above: u64,

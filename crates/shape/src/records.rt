@@ -7,7 +7,7 @@ ghost use Rattle.shape.specs.Scan.{body_ok, reserved_ok, closed_ok, not_ok, held
 
 // What a slot or the open book holds: whether it is of the shape, and then how many slots are taken and what their amounts are together,
 // in units and ten-thousandths. Amounts beyond what any positions could sum to are not of the shape, so that the sums stay within 64 bits.
-#[derive(Drop)]
+#[derive(Clone, Copy)]
 pub(crate) struct Held {
     pub ok: bool,
     pub taken: usize,

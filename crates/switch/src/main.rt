@@ -1,5 +1,6 @@
 // Reads calls from standard input, a line each, and prints an answer line for each. The books are of 64 open and 100 finished records,
 // the list has 64 places, and a line has at most 33,000 bytes with its newline.
+#![tactic(auto)]
 ghost use Rattle.std.specs.Prelude.{◌≡◌, cond, [], ◌+◌, ◌-◌, ◌≤◌, length, take, drop};
 ghost use Rattle.octets.specs.Parts.{part};
 ghost use Rattle.book.specs.Step.{book_of};
@@ -11,7 +12,7 @@ use account::Head;
 use libc::{STDIN_FILENO, STDOUT_FILENO};
 
 // The head after a line, and the length of the answer's text.
-#[derive(Drop)]
+#[derive(Clone, Copy)]
 struct Told {
     head: Head,
     length: usize,
@@ -19,7 +20,7 @@ struct Told {
 
 // What stands between two lines: the head, how many bytes of the output are not written out yet, and whether the rest of a line that is
 // too long is being passed over.
-#[derive(Drop)]
+#[derive(Clone, Copy)]
 struct State {
     head: Head,
     used: usize,
@@ -27,14 +28,14 @@ struct State {
 }
 
 // The state after some lines, and where the first line begins that has no newline yet.
-#[derive(Drop)]
+#[derive(Clone, Copy)]
 struct Rest {
     state: State,
     at: usize,
 }
 
 // What stands between two reads: how many bytes of a line without newline the buffer holds, and whether the input goes on.
-#[derive(Drop)]
+#[derive(Clone, Copy)]
 struct Window {
     state: State,
     have: usize,

@@ -1,4 +1,5 @@
 // The short field texts that are only judged, FSP name and currency, and the abort code with its value.
+#![tactic(auto)]
 ghost use Rattle.std.specs.Prelude.{◌≡◌, ◌-◌, ◌≤◌, ◌<◌, get_or};
 ghost use Rattle.form.specs.Regex.{judge};
 ghost use Rattle.form.specs.Listings.{name_form, currency_form};
@@ -6,7 +7,7 @@ ghost use Rattle.tokens.specs.Code.{row_form, at_four_places, read_code};
 
 use form::Verdict;
 
-#[derive(Drop)]
+#[derive(Clone, Copy)]
 pub enum CodeRead {
     Value(u16),
     Refused(usize),

@@ -1,4 +1,5 @@
 // The id of a transfer: a UUID's text of 36 characters, and its 16 bytes.
+#![tactic(auto)]
 ghost use Rattle.std.specs.Prelude.{◌≡◌, cond, ◌+◌, ◌*◌, ◌%◌, ◌≤◌, ◌<◌, min, length};
 ghost use Rattle.std.proofs.lemmas.List.Edits.{sets};
 ghost use Rattle.form.specs.Regex.{judge};
@@ -12,7 +13,7 @@ ghost use Rattle.uuid_text.specs.Groups.{hex_digits, pairs_of, dashed_pairs, fro
 use form::{Verdict, Written};
 
 // A text's verdict, and the bytes of a text of the form (zeros of any other).
-#[derive(Drop)]
+#[derive(Clone, Copy)]
 pub struct IdRead {
     pub verdict: Verdict,
     pub id: [u8; 16],

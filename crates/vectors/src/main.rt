@@ -1,4 +1,5 @@
 // Runs the published SHA-256 vectors and the limit rows of 01 that are not proved, and prints what the library answers to each.
+#![tactic(auto)]
 use amount::AmountRead;
 use datetime::InstantRead;
 use form::Written;

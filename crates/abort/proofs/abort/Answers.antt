@@ -1,0 +1,13 @@
+-- `abort`: 21 unless the book is of the shape.
+use mathlib.Core.Path.{sym, ◌∙◌}
+use Rattle.abort.proofs.Answers.{unshaped}
+use borrow.Author.Rules.{rules}
+use Rattle.abort.proofs.abort.Goals as goal
+
+pub in_shape-requires : goal.in_shape-requires
+in_shape-requires c =
+    let t = c in
+    sym t.is_sound.ensures ∙ t.if-is_sound.true
+
+pub returns : goal.returns
+returns c = rw c.reply.ensures (unshaped _ _ _ _ (sym c.is_sound.ensures ∙ c.if-is_sound.false))

@@ -1,0 +1,16 @@
+-- `on_record`: the part that is lent is the record.
+use Rattle.record.proofs.Rows.{lent_row}
+use Rattle.shape.specs.Reading.{transfer_of}
+use borrow.Author.Rules.{rules}
+use Rattle.abort.proofs.on_record.Goals as goal
+
+pub judged-requires : goal.judged-requires
+judged-requires c =
+    let a = c in
+    rw (lent_row a.args.book.now a.args.k) a.requires.payee
+
+pub returns : goal.returns
+unfolding transfer_of
+returns c =
+    let a = c.args in
+    rw (c.judged.ensures, c.by_state-answer.ensures, lent_row a.book.now a.k)

@@ -1,0 +1,16 @@
+use borrow.Author.Rules.{rules}
+use Prim.Native.Nat.{◌+◌, ◌-◌, ◌*◌, ◌/◌, ◌≤◌}
+use mathlib.Core.Path.{refl}
+use native.Mathlib.Omega.{arith}
+use native.Mathlib.Decide.{ℕ_discrete}
+use lib.ListN.{length, drop, get_or}
+use Rattle.amount.specs.Rest.{places_rest}
+use Rattle.amount.proofs.Turns.{Reading, reading_small, reading_full, reading_stop, reading_digit, reading_open, reading_end}
+use Rattle.amount.proofs.after_point.Given as goal
+
+abbrev pub invariant-loop-i : goal.invariant-loop-i
+invariant-loop-i l =
+    (l.i ≤ length l.s) × Reading (places_rest 4 46 l.from l.units 0 (drop l.from l.s)) l.s l.units l.remainder l.weight l.last l.i
+
+abbrev pub decreases-loop-i : goal.decreases-loop-i
+decreases-loop-i l = length l.s - l.i

@@ -1,0 +1,16 @@
+use Prim.Native.Nat.{◌-◌, ◌%◌, ◌≤◌}
+use mathlib.Core.Path.{◌≡◌, refl, ◌∙◌}
+use native.Mathlib.Omega.{arith}
+use lib.ListN.{length, length-set}
+use lib.Seq.{sets}
+use Rattle.octets.specs.Decimal.{in_digits}
+use Rattle.amount.proofs.Digits.{fill_pair, fill_last, fill_none}
+use Rattle.amount.proofs.put_pairs.Given as goal
+
+abbrev pub invariant-loop-k : goal.invariant-loop-k
+invariant-loop-k l =
+    (l.from ≤ l.k) × (l.k ≤ l.to) × (length l.out ≡ length l.initial.out)
+    × (sets l.out l.from (in_digits (l.k - l.from) l.rest) ≡ sets l.initial.out l.from (in_digits (l.to - l.from) l.n))
+
+abbrev pub decreases-loop-k : goal.decreases-loop-k
+decreases-loop-k l = l.k

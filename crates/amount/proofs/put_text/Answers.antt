@@ -1,0 +1,43 @@
+-- `amount::put_text` meets its contract: the stores of its parts are the stores of the text.
+use borrow.Author.Rules.{rules}
+use native.Mathlib.Omega.{arith}
+use mathlib.Core.Path.{◌∙◌}
+use lib.ListN.{length-set}
+use Rattle.amount.proofs.Digits.{length_some, text-whole, text-pointed}
+use Rattle.amount.proofs.put_text.Goals as goal
+
+pub returns-then-count-eq0 : goal.returns-then-count-eq0
+returns-then-count-eq0 c =
+    let a = c.args in
+    let p = c.put_whole in
+    text-whole a.out.now p.new.1.0 a.whole a.units a.count a.number p.ensures c.if-count-eq0.true
+
+pub bounds-out-whole : goal.bounds-out-whole
+bounds-out-whole c =
+    let a = c.args in
+    omega (arith, length_some a.count a.number c.if-count-eq0.false, c.put_whole.auto.1.0)
+
+pub overflow_add-to : goal.overflow_add-to
+overflow_add-to c =
+    let a = c.args in
+    omega (arith, length_some a.count a.number c.if-count-eq0.false)
+
+pub put_digits-requires : goal.put_digits-requires
+put_digits-requires c =
+    let a = c.args in
+    let l = length_some a.count a.number c.if-count-eq0.false in
+    let k = c.put_whole.auto.1.0 in
+    simp length-set (omega arith)
+
+pub shape_of-out : goal.shape_of-out
+shape_of-out c =
+    let k = c.put_whole.auto.1.0 in
+    c.put_digits.auto.1.0 ∙ (simp length-set k)
+
+pub returns : goal.returns
+returns c =
+    let a = c.args in
+    let p = c.put_whole in
+    let q = c.put_digits in
+    text-pointed a.out.now p.new.1.0 a.whole a.units a.count a.number p.ensures q.new.1.0
+    c.if-count-eq0.false q.ensures

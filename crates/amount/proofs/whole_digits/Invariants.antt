@@ -1,0 +1,16 @@
+use borrow.Author.Rules.{rules}
+use Prim.Native.Nat.{◌-◌, ◌^◌, ◌≤◌, ◌<◌}
+use mathlib.Core.Path.{◌≡◌, ◌∙◌}
+use native.Mathlib.Omega.{arith}
+use lib.ListN.{drop, get_or}
+use Rattle.amount.specs.Amount.{read_amount}
+use Rattle.amount.specs.Rest.{whole_rest}
+use Rattle.amount.proofs.Turns.{begin_zero, begin_digit, whole_at, whole_stop_at, whole_limit, grown, room}
+use Rattle.amount.proofs.whole_digits.Given as goal
+
+abbrev pub invariant-loop-i : goal.invariant-loop-i
+invariant-loop-i l =
+    (1 ≤ l.i) × (l.i ≤ l.limit) × (l.units < 10 ^ l.i) × (whole_rest (18 - l.i) l.i l.units (drop l.i l.s) ≡ read_amount l.s)
+
+abbrev pub decreases-loop-i : goal.decreases-loop-i
+decreases-loop-i l = l.limit - l.i

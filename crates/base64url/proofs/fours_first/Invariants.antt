@@ -1,0 +1,12 @@
+use Prim.Native.Nat.{◌-◌, ◌≤◌}
+use borrow.Author.Rules.{rules}
+use borrow.Author.Tests.{not-false}
+use Rattle.base64url.specs.Scan.{letters_first}
+use Rattle.base64url.proofs.Count.{Passed, count_starts, count_four}
+use Rattle.base64url.proofs.fours_first.Given as goal
+
+abbrev pub invariant-loop-i : goal.invariant-loop-i
+invariant-loop-i l = (l.i ≤ l.end) × Passed l.end l.s (letters_first l.end l.s) l.i
+
+abbrev pub decreases-loop-i : goal.decreases-loop-i
+decreases-loop-i l = l.end - l.i

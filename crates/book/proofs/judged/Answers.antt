@@ -1,0 +1,9 @@
+-- `judged`: the answer by whether the sender is the payee.
+use borrow.Author.Rules.{rules}
+use Rattle.book.proofs.judged.Goals as goal
+
+pub returns-then-is_payee : goal.returns-then-is_payee
+returns-then-is_payee c = rw (c.decided.ensures, c.number_of_lem.ensures, ← c.is_payee.ensures, c.if-is_payee.true)
+
+pub returns : goal.returns
+returns c = rw (c.decided-2.ensures, c.number_of_lem.ensures, ← c.is_payee.ensures, c.if-is_payee.false)

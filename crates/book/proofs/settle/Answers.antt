@@ -1,0 +1,10 @@
+-- `settle`: the definition is the code, with what the calls ensure.
+use borrow.Author.Rules.{rules}
+use Rattle.book.specs.Ending.{settled as settled_head}
+use Rattle.book.proofs.settle.Goals as goal
+
+pub returns : goal.returns
+unfolding settled_head
+returns c =
+    let amount = c.amount_of-amount.ensures in
+    rw (c.with_position-next.ensures, c.lower-position.ensures, amount.0, amount.1)

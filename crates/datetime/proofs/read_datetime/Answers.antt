@@ -1,0 +1,34 @@
+-- `read_datetime`: the value of a text that is passed, or where it stops.
+use mathlib.Core.Path.{◌≡◌, sym, ◌∙◌}
+use mathlib.Core.List.{List}
+use Prim.Native.Nat.{ℕ, ◌<◌}
+use mir.Facts.{to_z-of_z}
+use lib.ListN.{get_or}
+use Rattle.octets.proofs.Lists.{bytes}
+use Rattle.form.specs.Regex.{judge}
+use Rattle.form.specs.Listings.{date_time_form}
+use Rattle.form.specs.declared.Verdict.{Verdict}
+use Rattle.datetime.specs.Reach.{verdict}
+use Rattle.datetime.proofs.Walk.{verdict-is}
+use Rattle.datetime.proofs.Values.{read_value, read-refused}
+use borrow.Author.Rules.{rules}
+use Rattle.datetime.proofs.read_datetime.Goals as goal
+
+judged : (s : List ℕ) (v : Verdict) → ((k : ℕ) → get_or s k 0 < 256) → v ≡ verdict s → v ≡ judge date_time_form s
+judged s v b e = e ∙ verdict-is s (bytes s b)
+
+pub instant-requires : goal.instant-requires
+instant-requires c = sym c.verdict-found.ensures ∙ c.enum_told.given.1
+
+pub returns-in-Fits : goal.returns-in-Fits
+returns-in-Fits c = let known = c in
+    let s = known.args.s.now in
+    let found = c.verdict-found in
+    read_value s _ (judged s _ (λ (k : ℕ). (known.shared_slice_known-1.given k).fits) found.ensures) c.enum_told.given.1 _
+    (to_z-of_z (record { sfits = c.instant.type-inv }) ∙ c.instant.ensures)
+
+pub returns-in-Stops : goal.returns-in-Stops
+returns-in-Stops c = let known = c in
+    let s = known.args.s.now in
+    let found = c.verdict-found in
+    read-refused s _ (judged s _ (λ (k : ℕ). (known.shared_slice_known-1.given k).fits) found.ensures) _ c.found.given.1

@@ -1,0 +1,11 @@
+-- `digits_at`: two digits that were tested show their number.
+use mathlib.Core.Path.{subst⁻¹, ◌∙◌}
+use Prim.Native.Nat.{ℕ, ◌<◌}
+use Rattle.datetime.proofs.Passed.{shown-number}
+use borrow.Author.Rules.{rules}
+use Rattle.datetime.proofs.reader.digits_at.Goals as goal
+
+pub returns : goal.returns
+returns c = let s = c in
+    let e = c.two_at.ensures.0 in
+    (e ∙ shown-number s.args.s.now s.args.i s.requires.1, subst⁻¹ (λ (n : ℕ). n < 100) e s.requires.1)

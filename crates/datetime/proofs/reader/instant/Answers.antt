@@ -1,0 +1,48 @@
+-- `instant`: local time less the epoch, with the offset on the side that its sign says.
+use mathlib.Core.Path.{refl, sym, ◌∙◌}
+use mir.Facts.{to_z-of_z}
+use borrow.Author.Tests.{eqb-false}
+use native.Mathlib.Omega.{arith}
+use Rattle.datetime.proofs.Passed.{whole, ends_utc, ends_away, other_sign}
+use Rattle.datetime.proofs.Values.{ahead, behind, neither}
+use borrow.Author.Rules.{rules}
+use Rattle.datetime.proofs.reader.instant.Goals as goal
+
+pub local_time-local-requires : goal.local_time-local-requires
+local_time-local-requires c = whole c.args.s.now c.requires
+
+pub returns-then-s-eq24 : goal.returns-then-s-eq24
+returns-then-s-eq24 c = let s = c in
+    let local = c.local_time-local in
+    let z = ends_utc s.args.s.now s.requires c.if-s-eq24.true in
+    to_z-of_z (record { sfits = c.difference.type-inv })
+    ∙ c.difference.ensures
+    ∙ neither s.args.s.now local.result local.ensures.0 (λ e. eqb-false 90 43 refl (sym z ∙ e))
+    (λ e. eqb-false 90 45 refl (sym z ∙ e))
+
+pub offset-away-requires : goal.offset-away-requires
+offset-away-requires c = let s = c in
+    let z = ends_away s.args.s.now s.requires c.if-s-eq24.false in
+    (omega (arith, z.long), z.offset-away)
+
+pub bounds-s-23 : goal.bounds-s-23
+bounds-s-23 c = let s = c in
+    omega (arith, (whole s.args.s.now s.requires).0)
+
+pub returns-then-sign-eq43 : goal.returns-then-sign-eq43
+returns-then-sign-eq43 c = let s = c in
+    let local = c.local_time-local in
+    let away = c.offset-away in
+    to_z-of_z (record { sfits = c.difference-then-sign-eq43.type-inv })
+    ∙ c.difference-then-sign-eq43.ensures
+    ∙ ahead s.args.s.now local.result local.ensures.0 c.if-sign-eq43.true away.result away.ensures.0
+
+pub returns : goal.returns
+returns c = let s = c in
+    let local = c.local_time-local in
+    let away = c.offset-away in
+    let minus = other_sign _ (ends_away s.args.s.now s.requires c.if-s-eq24.false).sign
+    c.if-sign-eq43.false in
+    to_z-of_z (record { sfits = c.difference-2.type-inv })
+    ∙ c.difference-2.ensures
+    ∙ behind s.args.s.now local.result local.ensures.0 minus away.result away.ensures.0

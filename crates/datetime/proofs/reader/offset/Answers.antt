@@ -1,0 +1,11 @@
+-- `offset`: the numbers of an offset that was tested.
+use native.Mathlib.Omega.{arith}
+use Rattle.datetime.proofs.Passed.{set_off}
+use borrow.Author.Rules.{rules}
+use Rattle.datetime.proofs.reader.offset.Goals as goal
+
+pub digits_at-hour-requires : goal.digits_at-hour-requires
+digits_at-hour-requires c = let s = c in (omega arith, (set_off s.args.s.now s.requires.1).0)
+
+pub digits_at-minute-requires : goal.digits_at-minute-requires
+digits_at-minute-requires c = let s = c in (omega arith, (set_off s.args.s.now s.requires.1).1)

@@ -1,0 +1,22 @@
+-- `shows_marked`: past the end nothing is shown.
+use mathlib.Core.Path.{◌≡◌, refl, subst}
+use mathlib.Core.Bool.{Bool, true, false, ◌&&◌}
+use Prim.Native.Nat.{◌+◌}
+use native.Mathlib.Omega.{arith}
+use Rattle.datetime.specs.Plain.{is}
+use Rattle.datetime.proofs.Passed.{not-shown}
+use borrow.Author.Rules.{rules}
+use Rattle.datetime.proofs.reader.shows_marked.Goals as goal
+
+pub returns-then-i-s : goal.returns-then-i-s
+returns-then-i-s c = rw c.two_at-v.ensures.0
+
+pub returns : goal.returns
+returns c = let s = c in
+    subst (λ (t : Bool). false ≡ (is s.args.s.now s.args.i s.args.mark && t))
+    (not-shown s.args.s.now (s.args.i + 1) s.args.least s.args.most s.requires.1 (omega arith))
+    (neither (is s.args.s.now s.args.i s.args.mark))
+  where
+    neither : (m : Bool) → false ≡ (m && false)
+    neither true = refl
+    neither false = refl

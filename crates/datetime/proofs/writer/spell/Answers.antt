@@ -1,0 +1,10 @@
+-- `spell`: digit by digit; a year of four digits is two and two.
+use Prim.Native.Nat.{suc-le-suc}
+use borrow.Author.Rules.{rules}
+use Rattle.datetime.proofs.Texts.{utc_halves}
+use Rattle.datetime.proofs.writer.spell.Goals as goal
+
+pub returns : goal.returns
+returns c = let s = c in
+    let d = s.args.date in
+    cc (utc_halves d.century d.year d.month d.day s.args.t (suc-le-suc s.pre.0) (suc-le-suc s.pre.1))

@@ -1,0 +1,49 @@
+-- `form::run` meets its contract: the verdict on the bytes to come is the verdict on the whole text.
+use mathlib.Core.Path.{◌≡◌}
+use Prim.Native.Nat.{ℕ, ◌-◌, ◌≤◌}
+use lib.ListN.{length, drop}
+use borrow.Author.Rules.{rules}
+use Rattle.octets.proofs.Lists.{bytes}
+use Rattle.form.specs.Machine.{machine}
+use Rattle.form.proofs.Judged.{stop_at, go_on, stop_end, fit-end}
+use Rattle.form.proofs.run.Goals as goal
+
+pub returns-then-t : goal.returns-then-t
+returns-then-t c =
+    let a = c.args in
+    let l = c.loop-i in (
+      stop_at a.class.now a.next.now a.s.now l.i l.q c.step-t.result _ l.invariant.1 (search rules)
+          c.step-t.ensures
+          c.if-t.true,
+      bytes a.s.now (λ (k : ℕ). (c.shared_slice_known-in-loop-i-1.given k).fits),
+    )
+
+pub loop-i-preserved : goal.loop-i-preserved
+loop-i-preserved c =
+    let a = c.args in
+    let l = c.loop-i in (
+      search rules,
+      go_on a.class.now a.next.now a.s.now l.i l.q c.step-t.result _ l.invariant.1 (search rules)
+          c.step-t.ensures
+          c.if-t.false,
+    )
+
+pub returns-then-end : goal.returns-then-end
+returns-then-end c =
+    let a = c.args in
+    let l = c.loop-i in (
+      stop_end a.class.now a.next.now a.s.now l.i l.q c.look-end.result _ l.invariant.1 (search rules)
+          (search rules)
+          c.look-end.ensures c.if-end.true,
+      bytes a.s.now (λ (k : ℕ). (c.shared_slice_known-2-1.given k).fits),
+    )
+
+pub returns : goal.returns
+returns c =
+    let a = c.args in
+    let l = c.loop-i in (
+      fit-end a.class.now a.next.now a.s.now l.i l.q c.look-end.result _ l.invariant.1 (search rules)
+          (search rules)
+          c.look-end.ensures c.if-end.false,
+      bytes a.s.now (λ (k : ℕ). (c.shared_slice_known-2-1.given k).fits),
+    )

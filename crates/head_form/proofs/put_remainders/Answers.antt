@@ -1,0 +1,24 @@
+-- `put_remainders`: two stores of numbers, the length's byte, and zeros.
+use Prim.Native.Nat.{suc, ◌+◌}
+use mathlib.Core.Path.{◌≡◌, ◌∙◌}
+use native.Mathlib.Omega.{arith}
+use lib.ListN.{length-set}
+use Rattle.octets.specs.Parts.{zeros}
+use borrow.Author.Rules.{rules}
+use Rattle.head_form.proofs.put_remainders.Goals as goal
+
+pub put-requires : goal.put-requires
+put-requires c = simp length-set (omega arith)
+
+pub shape_of-b : goal.shape_of-b
+shape_of-b c = c.put.auto.0 ∙ (simp length-set (omega arith))
+
+pub returns : goal.returns
+unfolding zeros
+returns c =
+    let last = c in
+    let second = last in
+    let first = second in
+    let at = first.args.at in
+    let e : at + 53 ≡ suc (at + 52) = omega arith in
+    rw (last.put.ensures, e, second.put_number-2.ensures, first.put_number.ensures)

@@ -1,0 +1,27 @@
+-- `put_time`: two stores and the count's byte.
+use mathlib.Core.Path.{◌≡◌}
+use native.Mathlib.Omega.{arith}
+use lib.ListN.{length, length-set}
+use mir.Facts.{to_z-of_z}
+use mir.Syntax.{w64}
+use mir.Val.{SFits}
+use borrow.Author.Rules.{rules}
+use Rattle.head_form.proofs.put_time.Goals as goal
+
+pub put-requires : goal.put-requires
+put-requires c =
+    omega (arith, (let fact : length c.args.h.currency ≡ 3 = search rules in fact))
+
+pub shape_of-b : goal.shape_of-b
+shape_of-b c = simp length-set (omega arith)
+
+pub returns : goal.returns
+returns c =
+    let second = c in
+    let first = second in
+    rw (
+      second.put.ensures,
+      first.put_number.ensures,
+      first.unsigned.ensures,
+      to_z-of_z ((let fact : SFits w64 first.args.h.time = search rules in fact)),
+    )

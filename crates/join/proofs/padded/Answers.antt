@@ -1,0 +1,12 @@
+-- `padded`: the name stored over zeros.
+use mathlib.Core.Path.{◌∙◌}
+use Rattle.octets.specs.Parts.{zeros}
+use Rattle.join.proofs.Joining.{name_stored}
+use borrow.Author.Rules.{rules}
+use Rattle.join.proofs.padded.Goals as goal
+
+pub returns : goal.returns
+unfolding zeros
+returns c =
+    let s = c in
+    c.put.ensures ∙ name_stored s.args.name.now s.requires

@@ -1,0 +1,15 @@
+use Prim.Native.Nat.{◌-◌, ◌≤◌}
+use mathlib.Core.Path.{◌≡◌, refl, ◌∙◌}
+use native.Mathlib.Omega.{arith}
+use mathlib.Core.List.{[], ◌++◌, append-nil}
+use lib.ListN.{length, length-set, drop, drop_of_length-le}
+use borrow.Author.Rules.{rules}
+use Rattle.octets.specs.Parts.{zeros}
+use Rattle.octets.proofs.Stores.{clear_step}
+use Rattle.octets.proofs.clear.Given as goal
+
+abbrev pub invariant-loop-i : goal.invariant-loop-i
+invariant-loop-i l = (l.i ≤ length l.initial.s) × (length l.s ≡ length l.initial.s) × (l.s ≡ zeros l.i ++ drop l.i l.initial.s)
+
+abbrev pub decreases-loop-i : goal.decreases-loop-i
+decreases-loop-i l = length l.initial.s - l.i

@@ -1,0 +1,16 @@
+use Prim.Native.Nat.{◌-◌, ◌≤◌}
+use mathlib.Core.Path.{◌≡◌, refl, sym}
+use native.Mathlib.Omega.{arith}
+use lib.ListN.{length, length-set}
+use lib.Seq.{paste, paste-zero}
+use borrow.Author.Rules.{rules}
+use Rattle.octets.specs.Numbers.{big_endian}
+use Rattle.octets.proofs.Numbers.{length-big_endian, big_endian_at}
+use Rattle.octets.proofs.Stores.{paste-step, paste_all}
+use Rattle.octets.proofs.put_number.Given as goal
+
+abbrev pub invariant-loop-i : goal.invariant-loop-i
+invariant-loop-i l = (l.i ≤ l.width) × (length l.out ≡ length l.initial.out) × (l.out ≡ paste l.initial.out l.at (big_endian l.width l.x) l.i)
+
+abbrev pub decreases-loop-i : goal.decreases-loop-i
+decreases-loop-i l = l.width - l.i

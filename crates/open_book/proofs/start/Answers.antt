@@ -1,0 +1,50 @@
+-- `start`: 20 where the lengths are wrong, and else both books cleared and the head afresh.
+use mathlib.Core.Path.{◌≡◌}
+use mathlib.Core.Bool.{true}
+use native.Mathlib.Omega.{arith}
+use mir.Facts.{to_z-of_z}
+use borrow.Author.Tests.{not-true, not-false}
+use Rattle.shape.specs.Reading.{Book}
+use Rattle.book.specs.Step.{book_of}
+use Rattle.open_book.proofs.Opening.{lengths_ok, few_records, not-started, now_started}
+use borrow.Author.Rules.{rules}
+use Rattle.open_book.proofs.start.Goals as goal
+
+-- what is lent
+abbrev lent : goal.Else-not-lengths → Book
+lent c = let s = c.args in book_of s.h s.opened.now s.ended.now
+
+-- the lengths are right
+right : (c : goal.Else-not-lengths) → lengths_ok (lent c) ≡ true
+right c = rw (← c.length_ok.ensures, ← c.length_ok-2.ensures) (not-false _ c.if-not-lengths.false)
+
+pub returns-then-not-lengths : goal.returns-then-not-lengths
+returns-then-not-lengths c =
+    let s = c.args in
+    let l = c in
+    rw c.reply.ensures
+    (not-started (book_of s.h s.opened.now s.ended.now) s.currency.now s.time
+    (rw (← l.length_ok.ensures, ← l.length_ok-2.ensures) (not-true _ c.if-not-lengths.true)))
+
+pub overflow_cast-slots : goal.overflow_cast-slots
+overflow_cast-slots c = record { fits = omega (arith, few_records (lent c) (right c)) }
+
+pub overflow_cast-places : goal.overflow_cast-places
+overflow_cast-places c = record { fits = omega (arith, few_records (lent c) (right c)) }
+
+pub returns : goal.returns
+returns c =
+    let made = c in
+    let cleared = made in
+    let first = cleared in
+    let else = first in
+    let s = else in
+    rw (
+      c.reply-2.ensures,
+      made.fresh-next.ensures,
+      made.letters.ensures,
+      cleared.clear-2.ensures,
+      first.clear.ensures,
+      to_z-of_z s.ranges.time,
+    )
+    (now_started ((let fact : Book = let s = else.args in book_of s.h s.opened.now s.ended.now in fact)) s.args.currency.now s.args.time ((let fact : lengths_ok ((let fact : Book = let s = else.args in book_of s.h s.opened.now s.ended.now in fact)) ≡ true = rw (← else.length_ok.ensures, ← else.length_ok-2.ensures) (not-false _ else.if-not-lengths.false) in fact)))

@@ -1,0 +1,18 @@
+use Prim.Native.Nat.{◌-◌, ◌≤◌}
+use mathlib.Core.Path.{◌≡◌, refl, ap, ◌∙◌}
+use native.Mathlib.Omega.{arith}
+use lib.ListN.{take}
+use lib.Seq.{take_all}
+use borrow.Author.Rules.{rules}
+use Rattle.octets.specs.Lists.{count}
+use Rattle.record.specs.Rows.{rows}
+use Rattle.record.proofs.Rows.{length-rows}
+use Rattle.shape.specs.Reading.{is_taken}
+use Rattle.prepare.proofs.Tests.{count-slot}
+use Rattle.prepare.proofs.taken.Given as goal
+
+abbrev pub invariant-loop-k : goal.invariant-loop-k
+invariant-loop-k l = (l.k ≤ l.slots) × (l.n ≤ l.k) × (l.n ≡ count is_taken (take l.k (rows l.slots l.opened)))
+
+abbrev pub decreases-loop-k : goal.decreases-loop-k
+decreases-loop-k l = l.slots - l.k

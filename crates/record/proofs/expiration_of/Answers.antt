@@ -1,0 +1,12 @@
+-- `expiration_of`: the bits of the expiration are the number of its field's bytes.
+use mathlib.Core.Path.{ap, ◌∙◌}
+use mir.Facts.{to_z-of_z}
+use mir.Syntax.{w64}
+use mir.Val.{to_z}
+use Rattle.record.specs.Layout.{get}
+use borrow.Author.Rules.{rules}
+use Rattle.record.proofs.expiration_of.Goals as goal
+
+pub returns : goal.returns
+unfolding get
+returns c = to_z-of_z (record { sfits = c.signed.type-inv }) ∙ c.signed.ensures ∙ ap (to_z w64) c.number.ensures.0

@@ -1,0 +1,12 @@
+-- `units_of`: eight bytes are two numbers of four.
+use mathlib.Core.Path.{sym}
+use native.Mathlib.Omega.{arith}
+use Rattle.record.proofs.Fields.{num_units}
+use borrow.Author.Rules.{rules}
+use Rattle.record.proofs.units_of.Goals as goal
+
+pub returns : goal.returns
+returns c =
+    let upper = c in
+    let r = upper.args.part.now in
+    rw (upper.four-upper.ensures, c.four-lower.ensures) (sym (num_units r (omega arith)))

@@ -1,0 +1,39 @@
+-- `write_new`: three runs of settings, one after the other, are the settings of a new record.
+use mathlib.Core.Path.{◌≡◌, ap, ◌∙◌}
+use lib.ListN.{length}
+use Rattle.octets.proofs.Stores.{length-zeros}
+use Rattle.record.specs.Layout.{new_row}
+use mir.Facts.{to_z-of_z}
+use mir.Syntax.{w64}
+use mir.Val.{SFits}
+use borrow.Author.Rules.{rules}
+use Rattle.record.proofs.write_new.Goals as goal
+
+pub put_parties-requires : goal.put_parties-requires
+put_parties-requires c = (let fact : length c.args.part.now ≡ 160 = ap length c.requires ∙ length-zeros 160 in fact)
+
+pub put_amount-requires : goal.put_amount-requires
+put_amount-requires c =
+    let first = c in
+    first.put_parties.auto.0 ∙ (let fact : length first.args.part.now ≡ 160 = ap length first.requires ∙ length-zeros 160 in fact)
+
+pub put_hashes-requires : goal.put_hashes-requires
+put_hashes-requires c =
+    let second = c in
+    let first = second in
+    second.put_amount.auto.0 ∙ first.put_parties.auto.0 ∙ (let fact : length first.args.part.now ≡ 160 = ap length first.requires ∙ length-zeros 160 in fact)
+
+pub returns : goal.returns
+unfolding new_row
+returns c =
+    let third = c in
+    let second = third in
+    let first = second in
+    let start = first in
+    rw (
+      third.put_hashes.ensures,
+      second.put_amount.ensures,
+      first.put_parties.ensures,
+      start.requires,
+      to_z-of_z ((let fact : SFits w64 start.args.c.expiration = search rules in fact)),
+    )

@@ -1,0 +1,10 @@
+use Rattle.std.proofs.Common.{◌≡◌, ◌-◌, ◌*◌, ◌≤◌, length, take, sym, refl, ◌∙◌, arith, take_all, rules}
+use Rattle.sha256.specs.Sha256.{joined}
+use Rattle.sha256.proofs.Turns.{joined_step}
+use Rattle.sha256.proofs.digest.bytes_of.Given as goal
+
+abbrev pub invariant-loop-i : goal.invariant-loop-i
+invariant-loop-i l = (l.i ≤ 8) × (length l.out ≡ 32) × (take (4 * l.i) l.out ≡ joined l.i l.s)
+
+abbrev pub decreases-loop-i : goal.decreases-loop-i
+decreases-loop-i l = 8 - l.i

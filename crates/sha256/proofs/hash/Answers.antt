@@ -1,0 +1,14 @@
+-- `sha256::hash` meets its contract: the whole blocks of the message and then its padded end are the blocks of the padded message.
+use Rattle.sha256.specs.Sha256.{K}
+use Rattle.sha256.proofs.Padding.{parts_hashed}
+use Rattle.std.proofs.Common.{rules}
+use Rattle.sha256.proofs.hash.Goals as goal
+
+pub returns : goal.returns
+returns c =
+    let made = c in
+    let whole = made in
+    let start = whole in
+    let m = start.args.message.now in
+    parts_hashed m made.made-end.result made.size-size.result start.start.ensures whole.absorbed-whole.ensures
+    made.made-end.ensures c.absorbed.ensures c.bytes_of.ensures

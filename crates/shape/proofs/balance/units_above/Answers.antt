@@ -1,0 +1,18 @@
+-- `units_above`: below zero nothing, else the number's bits.
+use mathlib.Core.Path.{◌≡◌, sym, ◌∙◌}
+use mir.Syntax.{w64}
+use mir.Val.{to_z, of_z}
+use mir.Facts.{to_z-of_z}
+use borrow.Author.Rules.{rules}
+use Rattle.octets.proofs.Integers.{neg_split', nonneg_split, nonneg_bits}
+use Rattle.shape.proofs.balance.units_above.Goals as goal
+
+pub returns-then-units-lt0 : goal.returns-then-units-lt0
+returns-then-units-lt0 c = sym (neg_split' c.args.p.units (rw ((let fact : to_z w64 (of_z w64 c.args.p.units) ≡ c.args.p.units = to_z-of_z (record { sfits = c.struct_told.given.0.1 }) in fact)) at c.if-units-lt0.true)).0
+
+pub returns : goal.returns
+returns c =
+    let t = c in
+    let z = t.args.p.units in
+    let some = rw ((let fact : to_z w64 (of_z w64 t.args.p.units) ≡ t.args.p.units = to_z-of_z (record { sfits = t.struct_told.given.0.1 }) in fact)) at c.if-units-lt0.false in
+    (rw ((let fact : to_z w64 (of_z w64 t.args.p.units) ≡ t.args.p.units = to_z-of_z (record { sfits = t.struct_told.given.0.1 }) in fact)) at c.unsigned.ensures) ∙ sym ((nonneg_split z some).1 ∙ nonneg_bits z some)

@@ -1,0 +1,32 @@
+-- `units_below`: what the bits of a negative number lack.
+use Prim.Native.Nat.{ℕ, ◌+◌, ◌<◌, ◌≤◌, ◌^◌}
+use mathlib.Core.Path.{◌≡◌, sym}
+use native.Mathlib.Omega.{arith}
+use mir.Syntax.{w64}
+use mir.Val.{to_z, of_z}
+use mir.Facts.{to_z-of_z}
+use borrow.Author.Rules.{rules}
+use Rattle.octets.specs.Integers.{dn}
+use Rattle.octets.proofs.Integers.{mag_split, neg_split', nonneg_split, bits_split}
+use Rattle.shape.proofs.balance.units_below.Goals as goal
+
+abbrev down : goal.After-unsigned → ℕ
+down c = dn c.args.p.units
+
+bits : (c : goal.After-unsigned) → (c.unsigned.result + down c ≡ 2 ^ 64) × (0 < down c) × (down c ≤ 2 ^ 63)
+bits c =
+    let t = c in
+    let z = t.args.p.units in
+    let e = rw ((let fact : to_z w64 (of_z w64 t.args.p.units) ≡ t.args.p.units = to_z-of_z (record { sfits = t.struct_told.given.0.1 }) in fact)) at c.unsigned.ensures in
+    let below = rw ((let fact : to_z w64 (of_z w64 t.args.p.units) ≡ t.args.p.units = to_z-of_z (record { sfits = t.struct_told.given.0.1 }) in fact)) at c.if-units-lt0.true in
+    let most = (mag_split z (2 ^ 63) t.struct_told.given.0.1).1 in
+    rw e (bits_split z below most, (neg_split' z below).1, most)
+
+pub overflow_add-result : goal.overflow_add-result
+overflow_add-result c = omega (arith, bits c)
+
+pub returns-then-units-lt0 : goal.returns-then-units-lt0
+returns-then-units-lt0 c = (omega (arith, bits c), omega (arith, bits c))
+
+pub returns : goal.returns
+returns c = (sym (nonneg_split c.args.p.units (rw ((let fact : to_z w64 (of_z w64 c.args.p.units) ≡ c.args.p.units = to_z-of_z (record { sfits = c.struct_told.given.0.1 }) in fact)) at c.if-units-lt0.false)).0, omega arith)

@@ -1,0 +1,12 @@
+use Prim.Native.Nat.{◌-◌}
+use native.Mathlib.Omega.{arith}
+use borrow.Author.Rules.{rules}
+use Rattle.uuid_text.specs.Row.{Walked}
+use Rattle.uuid_text.proofs.Walk.{begun, onward}
+use Rattle.uuid_text.proofs.first_wrong.Given as goal
+
+abbrev pub invariant-loop-i : goal.invariant-loop-i
+invariant-loop-i l = Walked l.s l.start l.i l.first
+
+abbrev pub decreases-loop-i : goal.decreases-loop-i
+decreases-loop-i l = l.end - l.i

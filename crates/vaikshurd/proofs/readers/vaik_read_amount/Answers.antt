@@ -1,0 +1,13 @@
+-- `vaik_read_amount`: the amount that was read, or 1.
+use mathlib.Core.Path.{sym, ◌∙◌}
+use borrow.Author.Rules.{rules}
+use Rattle.vaikshurd.proofs.readers.vaik_read_amount.Goals as goal
+
+pub returns-in-Value : goal.returns-in-Value
+returns-in-Value c =
+    let read = c in
+    rw (c.packed.ensures, sym read.read_amount-read.ensures ∙ read.read.given.1)
+
+pub returns-in-Refused : goal.returns-in-Refused
+returns-in-Refused c =
+    rw (c.packed-in-Refused.ensures, sym c.read_amount-read.ensures ∙ c.enum_told.given.1)

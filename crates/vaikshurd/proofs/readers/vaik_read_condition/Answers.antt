@@ -1,0 +1,8 @@
+-- `vaik_read_condition`: the bytes that were read, handed over.
+use borrow.Author.Rules.{rules}
+use Rattle.vaikshurd.proofs.readers.vaik_read_condition.Goals as goal
+
+pub returns : goal.returns
+returns c =
+    let h = c in
+    rw (← h.read_condition-read.ensures) h.hand_over.ensures

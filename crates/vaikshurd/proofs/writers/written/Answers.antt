@@ -1,0 +1,9 @@
+-- `written`: by the cases of the answer; a length is a mark.
+use borrow.Author.Rules.{rules}
+use Rattle.vaikshurd.proofs.writers.written.Goals as goal
+
+pub overflow_cast-n : goal.overflow_cast-n
+overflow_cast-n c = record { fits = rw c.w.given.1 at c.requires }
+
+pub returns-in-Length : goal.returns-in-Length
+returns-in-Length c = rw (c.packed.ensures, c.w.given.1)
