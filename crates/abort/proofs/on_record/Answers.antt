@@ -6,8 +6,7 @@ use Rattle.abort.proofs.on_record.Goals as goal
 
 pub judged-requires : goal.judged-requires
 judged-requires c =
-    let a = c in
-    rw (lent_row a.args.book.now a.args.k) a.requires.payee
+    rw (lent_row c.args.book.now c.args.k) c.requires.payee
 
 pub returns : goal.returns
 unfolding transfer_of

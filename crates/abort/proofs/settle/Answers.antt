@@ -16,18 +16,15 @@ use Rattle.abort.proofs.settle.Goals as goal
 
 pub carry_out-requires : goal.carry_out-requires
 carry_out-requires c =
-    let d = c in
-    let a = d in
+    let a = c in
     record {
       byte = omega arith;
-      ends = decided_ends ((let fact : Book = book_of a.args.h a.args.opened.now a.args.ended.now in fact)) _ _ (by_state a.args.code) _ d.decide-d.ensures ((let fact : Sound ((let fact : Book = book_of a.args.h a.args.opened.now a.args.ended.now in fact)) = shape.sound ((let fact : Book = book_of a.args.h a.args.opened.now a.args.ended.now in fact)) ((let fact : length a.args.h.accounts ≡ 32 = search (rules, length_unmap) depth 8 in fact)) a.requires in fact)) (num payer_field) (λ r s. s.payer);
+      ends = decided_ends (book_of a.args.h a.args.opened.now a.args.ended.now) _ _ (by_state a.args.code) _ c.decide-d.ensures ((let fact : Sound (book_of a.args.h a.args.opened.now a.args.ended.now) = shape.sound (book_of a.args.h a.args.opened.now a.args.ended.now) ((let fact : length a.args.h.accounts ≡ 32 = search (rules, length_unmap) depth 8 in fact)) a.requires in fact)) (num payer_field) (λ r s. s.payer);
     }
 
 pub returns : goal.returns
 unfolding zeros
 returns c =
-    let carried = c in
-    let d = carried in
-    let a = d in
-    carried.carry_out.ensures
-    ∙ decided_leaves ((let fact : Book = book_of a.args.h a.args.opened.now a.args.ended.now in fact)) _ _ (by_state a.args.code) _ d.decide-d.ensures (num payer_field) (ended_row 4 2 a.args.code (zeros 32))
+    let a = c in
+    c.carry_out.ensures
+    ∙ decided_leaves (book_of a.args.h a.args.opened.now a.args.ended.now) _ _ (by_state a.args.code) _ c.decide-d.ensures (num payer_field) (ended_row 4 2 a.args.code (zeros 32))

@@ -16,8 +16,7 @@ not_negative c = rw ((let fact : to_z w64 (of_z w64 c.args.p.units) ≡ c.args.p
 
 pub returns-then-units-lt0 : goal.returns-then-units-lt0
 returns-then-units-lt0 c =
-    let s = c in
-    within_negative s.args.p s.args.a (rw ((let fact : to_z w64 (of_z w64 c.args.p.units) ≡ c.args.p.units = to_z-of_z (record { sfits = c.struct_told.given.0.1 }) in fact)) at c.if-units-lt0.true) s.requires.0
+    within_negative c.args.p c.args.a (rw ((let fact : to_z w64 (of_z w64 c.args.p.units) ≡ c.args.p.units = to_z-of_z (record { sfits = c.struct_told.given.0.1 }) in fact)) at c.if-units-lt0.true) c.requires.0
 
 pub overflow_cast-whole : goal.overflow_cast-whole
 overflow_cast-whole c =
@@ -25,22 +24,16 @@ overflow_cast-whole c =
 
 pub returns-then-whole-a : goal.returns-then-whole-a
 returns-then-whole-a c =
-    let e = c in
-    let s = e in
-    let less = rw ((let fact : to_z w64 (of_z w64 e.args.p.units) ≡ e.args.p.units = to_z-of_z (record { sfits = e.struct_told.given.0.1 }) in fact)) at c.if-whole-a.true in
-    within_less s.args.p s.args.a ((let fact : lt_z e.args.p.units (pos 0) ≡ false = rw ((let fact : to_z w64 (of_z w64 e.args.p.units) ≡ e.args.p.units = to_z-of_z (record { sfits = e.struct_told.given.0.1 }) in fact)) at e.if-units-lt0.false in fact)) s.requires.0 s.requires.1 (omega arith)
+    let less = rw ((let fact : to_z w64 (of_z w64 c.args.p.units) ≡ c.args.p.units = to_z-of_z (record { sfits = c.struct_told.given.0.1 }) in fact)) at c.if-whole-a.true in
+    within_less c.args.p c.args.a ((let fact : lt_z c.args.p.units (pos 0) ≡ false = rw ((let fact : to_z w64 (of_z w64 c.args.p.units) ≡ c.args.p.units = to_z-of_z (record { sfits = c.struct_told.given.0.1 }) in fact)) at c.if-units-lt0.false in fact)) c.requires.0 c.requires.1 (omega arith)
 
 pub returns-then-a-whole : goal.returns-then-a-whole
 returns-then-a-whole c =
-    let e = c in
-    let s = e in
-    let more = rw ((let fact : to_z w64 (of_z w64 e.args.p.units) ≡ e.args.p.units = to_z-of_z (record { sfits = e.struct_told.given.0.1 }) in fact)) at c.if-a-whole.true in
-    within_more s.args.p s.args.a ((let fact : lt_z e.args.p.units (pos 0) ≡ false = rw ((let fact : to_z w64 (of_z w64 e.args.p.units) ≡ e.args.p.units = to_z-of_z (record { sfits = e.struct_told.given.0.1 }) in fact)) at e.if-units-lt0.false in fact)) s.requires.0 s.requires.1 (omega arith)
+    let more = rw ((let fact : to_z w64 (of_z w64 c.args.p.units) ≡ c.args.p.units = to_z-of_z (record { sfits = c.struct_told.given.0.1 }) in fact)) at c.if-a-whole.true in
+    within_more c.args.p c.args.a ((let fact : lt_z c.args.p.units (pos 0) ≡ false = rw ((let fact : to_z w64 (of_z w64 c.args.p.units) ≡ c.args.p.units = to_z-of_z (record { sfits = c.struct_told.given.0.1 }) in fact)) at c.if-units-lt0.false in fact)) c.requires.0 c.requires.1 (omega arith)
 
 pub returns : goal.returns
 returns c =
-    let e = c in
-    let s = e in
-    let low = rw ((let fact : to_z w64 (of_z w64 e.args.p.units) ≡ e.args.p.units = to_z-of_z (record { sfits = e.struct_told.given.0.1 }) in fact)) at c.if-whole-a.false in
-    let high = rw ((let fact : to_z w64 (of_z w64 e.args.p.units) ≡ e.args.p.units = to_z-of_z (record { sfits = e.struct_told.given.0.1 }) in fact)) at c.if-a-whole.false in
-    within_equal s.args.p s.args.a ((let fact : lt_z e.args.p.units (pos 0) ≡ false = rw ((let fact : to_z w64 (of_z w64 e.args.p.units) ≡ e.args.p.units = to_z-of_z (record { sfits = e.struct_told.given.0.1 }) in fact)) at e.if-units-lt0.false in fact)) s.requires.0 s.requires.1 (omega arith)
+    let low = rw ((let fact : to_z w64 (of_z w64 c.args.p.units) ≡ c.args.p.units = to_z-of_z (record { sfits = c.struct_told.given.0.1 }) in fact)) at c.if-whole-a.false in
+    let high = rw ((let fact : to_z w64 (of_z w64 c.args.p.units) ≡ c.args.p.units = to_z-of_z (record { sfits = c.struct_told.given.0.1 }) in fact)) at c.if-a-whole.false in
+    within_equal c.args.p c.args.a ((let fact : lt_z c.args.p.units (pos 0) ≡ false = rw ((let fact : to_z w64 (of_z w64 c.args.p.units) ≡ c.args.p.units = to_z-of_z (record { sfits = c.struct_told.given.0.1 }) in fact)) at c.if-units-lt0.false in fact)) c.requires.0 c.requires.1 (omega arith)

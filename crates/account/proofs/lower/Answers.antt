@@ -7,10 +7,8 @@ use Rattle.account.proofs.lower.Goals as goal
 
 pub overflow_sub-units : goal.overflow_sub-units
 overflow_sub-units c =
-    let s = c in
-    difference_fits s.args.p.units s.requires.0.units (cast-units c) (omega arith)
+    difference_fits c.args.p.units c.requires.0.units (cast-units c) (omega arith)
 
 pub returns : goal.returns
 returns c =
-    let s = c in
-    lowered_is s.args.p s.args.a _ s.requires.0.units (cast-units c) (omega arith) (omega arith) (omega arith)
+    lowered_is c.args.p c.args.a _ c.requires.0.units (cast-units c) (omega arith) (omega arith) (omega arith)

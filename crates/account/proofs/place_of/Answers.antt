@@ -19,22 +19,19 @@ is_named-requires c = c.requires.short _ (omega arith)
 
 pub returns-then-is_named : goal.returns-then-is_named
 returns-then-is_named c =
-    let s = c in
     let l = c.loop-k in
-    index_hit (named s.args.name.now) (accounts_of s.args.t1) l.k l.invariant.1 no_account (omega (arith, (let fact : length (accounts_of s.args.t1) ≡ s.args.t1.count = let places : length s.args.t1.accounts ≡ 32 = simp length-map at s.well-formed.0.1.1.0.1.0.1 in length-take-le s.args.t1.count s.args.t1.accounts (omega (arith, s.requires.few)) in fact)))
-    (sym ((let fact : let s = c in c.is_named.result ≡ named s.args.name.now (get_or (accounts_of s.args.t1) c.loop-k.k no_account) = let s = c in let k = c.loop-k.k in c.is_named.ensures ∙ rw (get_or-take s.args.t1.count s.args.t1.accounts k no_account (omega arith)) in fact)) ∙ c.if-is_named.true)
+    index_hit (named c.args.name.now) (accounts_of c.args.h) l.k l.invariant.1 no_account (omega (arith, (let fact : length (accounts_of c.args.h) ≡ c.args.h.count = let places : length c.args.h.accounts ≡ 32 = simp length-map at c.well_formed.0.1.1.0.1.0.1 in length-take-le c.args.h.count c.args.h.accounts (omega (arith, c.requires.few)) in fact)))
+    (sym ((let fact : c.is_named.result ≡ named c.args.name.now (get_or (accounts_of c.args.h) c.loop-k.k no_account) = let k = c.loop-k.k in c.is_named.ensures ∙ rw (get_or-take c.args.h.count c.args.h.accounts k no_account (omega arith)) in fact)) ∙ c.if-is_named.true)
 
 pub loop-k-preserved : goal.loop-k-preserved
 loop-k-preserved c =
-    let s = c in
     let l = c.loop-k in (
       search rules,
-      index_miss (named s.args.name.now) (accounts_of s.args.t1) l.k l.invariant.1 no_account (omega (arith, (let fact : length (accounts_of s.args.t1) ≡ s.args.t1.count = let places : length s.args.t1.accounts ≡ 32 = simp length-map at s.well-formed.0.1.1.0.1.0.1 in length-take-le s.args.t1.count s.args.t1.accounts (omega (arith, s.requires.few)) in fact)))
-          (sym ((let fact : let s = c in c.is_named.result ≡ named s.args.name.now (get_or (accounts_of s.args.t1) c.loop-k.k no_account) = let s = c in let k = c.loop-k.k in c.is_named.ensures ∙ rw (get_or-take s.args.t1.count s.args.t1.accounts k no_account (omega arith)) in fact)) ∙ c.if-is_named.false),
+      index_miss (named c.args.name.now) (accounts_of c.args.h) l.k l.invariant.1 no_account (omega (arith, (let fact : length (accounts_of c.args.h) ≡ c.args.h.count = let places : length c.args.h.accounts ≡ 32 = simp length-map at c.well_formed.0.1.1.0.1.0.1 in length-take-le c.args.h.count c.args.h.accounts (omega (arith, c.requires.few)) in fact)))
+          (sym ((let fact : c.is_named.result ≡ named c.args.name.now (get_or (accounts_of c.args.h) c.loop-k.k no_account) = let k = c.loop-k.k in c.is_named.ensures ∙ rw (get_or-take c.args.h.count c.args.h.accounts k no_account (omega arith)) in fact)) ∙ c.if-is_named.false),
     )
 
 pub returns : goal.returns
 returns c =
-    let s = c in
     let l = c.loop-k in
-    index-done (named s.args.name.now) (accounts_of s.args.t1) l.k l.invariant.1 (omega (arith, (let fact : length (accounts_of s.args.t1) ≡ s.args.t1.count = let places : length s.args.t1.accounts ≡ 32 = simp length-map at s.well-formed.0.1.1.0.1.0.1 in length-take-le s.args.t1.count s.args.t1.accounts (omega (arith, s.requires.few)) in fact)))
+    index-done (named c.args.name.now) (accounts_of c.args.h) l.k l.invariant.1 (omega (arith, (let fact : length (accounts_of c.args.h) ≡ c.args.h.count = let places : length c.args.h.accounts ≡ 32 = simp length-map at c.well_formed.0.1.1.0.1.0.1 in length-take-le c.args.h.count c.args.h.accounts (omega (arith, c.requires.few)) in fact)))

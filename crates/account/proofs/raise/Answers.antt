@@ -7,10 +7,8 @@ use Rattle.account.proofs.raise.Goals as goal
 
 pub overflow_add-units : goal.overflow_add-units
 overflow_add-units c =
-    let s = c in
-    sum_fits s.args.p.units s.requires.0.units (cast-units c) (omega arith)
+    sum_fits c.args.p.units c.requires.0.units (cast-units c) (omega arith)
 
 pub returns : goal.returns
 returns c =
-    let s = c in
-    raised_is s.args.p s.args.a _ s.requires.0.units (cast-units c) (omega arith) (omega arith) (omega arith)
+    raised_is c.args.p c.args.a _ c.requires.0.units (cast-units c) (omega arith) (omega arith) (omega arith)

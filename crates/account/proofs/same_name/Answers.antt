@@ -10,31 +10,28 @@ use Rattle.octets.proofs.Equal.{other_length_lem, same_differ, same_agree, same-
 use Rattle.account.proofs.same_name.Goals as goal
 
 pub returns-then-n-name : goal.returns-then-n-name
-returns-then-n-name c = sym (other_length_lem _ _ (λ e. omega (arith, (let fact : length (take c.args.n c.args.t1) ≡ c.args.n = length-take-le _ _ (omega (arith, (let fact : length c.args.t1 ≡ 32 = search rules in fact))) in fact))))
+returns-then-n-name c = sym (other_length_lem _ _ (λ e. omega (arith, (let fact : length (take c.args.n c.args.place) ≡ c.args.n = length-take-le _ _ (omega (arith, (let fact : length c.args.place ≡ 32 = search rules in fact))) in fact))))
 
 pub loop-i-init : goal.loop-i-init
 loop-i-init c = (search rules, refl)
 
 pub returns-then-place-i : goal.returns-then-place-i
 returns-then-place-i c =
-    let s = c in
     let l = c.loop-i in
-    let h : l.i < length (take s.args.n s.args.t1) = omega (arith, (let fact : length (take s.args.n s.args.t1) ≡ s.args.n = length-take-le _ _ (omega (arith, (let fact : length s.args.t1 ≡ 32 = search rules in fact))) in fact)) in
-    sym (l.invariant.1 ∙ same_differ (take s.args.n s.args.t1) s.args.name.now l.i h (omega arith)
-    (rw (get_or-take s.args.n s.args.t1 l.i 0 (omega arith)) c.if-place-i.true))
+    let h : l.i < length (take c.args.n c.args.place) = omega (arith, (let fact : length (take c.args.n c.args.place) ≡ c.args.n = length-take-le _ _ (omega (arith, (let fact : length c.args.place ≡ 32 = search rules in fact))) in fact)) in
+    sym (l.invariant.1 ∙ same_differ (take c.args.n c.args.place) c.args.name.now l.i h (omega arith)
+    (rw (get_or-take c.args.n c.args.place l.i 0 (omega arith)) c.if-place-i.true))
 
 pub loop-i-preserved : goal.loop-i-preserved
 loop-i-preserved c =
-    let s = c in
     let l = c.loop-i in
-    let h : l.i < length (take s.args.n s.args.t1) = omega (arith, (let fact : length (take s.args.n s.args.t1) ≡ s.args.n = length-take-le _ _ (omega (arith, (let fact : length s.args.t1 ≡ 32 = search rules in fact))) in fact)) in (
+    let h : l.i < length (take c.args.n c.args.place) = omega (arith, (let fact : length (take c.args.n c.args.place) ≡ c.args.n = length-take-le _ _ (omega (arith, (let fact : length c.args.place ≡ 32 = search rules in fact))) in fact)) in (
       search rules,
-      l.invariant.1 ∙ same_agree (take s.args.n s.args.t1) s.args.name.now l.i h (omega arith)
-          (rw (get_or-take s.args.n s.args.t1 l.i 0 (omega arith)) c.if-place-i.false),
+      l.invariant.1 ∙ same_agree (take c.args.n c.args.place) c.args.name.now l.i h (omega arith)
+          (rw (get_or-take c.args.n c.args.place l.i 0 (omega arith)) c.if-place-i.false),
     )
 
 pub returns : goal.returns
 returns c =
-    let s = c in
     let l = c.loop-i in
-    sym (l.invariant.1 ∙ same-done (take s.args.n s.args.t1) s.args.name.now l.i (omega (arith, (let fact : length (take s.args.n s.args.t1) ≡ s.args.n = length-take-le _ _ (omega (arith, (let fact : length s.args.t1 ≡ 32 = search rules in fact))) in fact))) (omega arith))
+    sym (l.invariant.1 ∙ same-done (take c.args.n c.args.place) c.args.name.now l.i (omega (arith, (let fact : length (take c.args.n c.args.place) ≡ c.args.n = length-take-le _ _ (omega (arith, (let fact : length c.args.place ≡ 32 = search rules in fact))) in fact))) (omega arith))

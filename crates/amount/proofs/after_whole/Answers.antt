@@ -11,7 +11,7 @@ returns-then-s-end c = let a = c.args in whole-end_at a.s.now a.end a.units (ome
 pub returns-then-s-end-eq46 : goal.returns-then-s-end-eq46
 returns-then-s-end-eq46 c =
     let a = c.args in
-    c.after_point_lem.ensures ∙ whole_point_at a.s.now a.end a.units (omega arith) (omega arith)
+    c.after_point.ensures ∙ whole_point_at a.s.now a.end a.units (omega arith) (omega arith)
 
 pub returns : goal.returns
 returns c = let a = c.args in whole-other_at a.s.now a.end a.units (omega arith) (omega arith)

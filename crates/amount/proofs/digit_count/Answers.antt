@@ -3,10 +3,8 @@ use Prim.Native.Nat.{ℕ, ◌+◌, ◌-◌, ◌*◌, ◌^◌, ◌≤◌, ◌<◌
 use mathlib.Core.Path.{◌≡◌, refl}
 use native.Mathlib.Omega.{arith}
 use Rattle.amount.proofs.Digits.{count_short, count-step, counted}
+use Rattle.amount.proofs.digit_count.Invariants.{Counting}
 use Rattle.amount.proofs.digit_count.Goals as goal
-
-abbrev Counting : ℕ → ℕ → ℕ → Type 0
-Counting n count power = (1 ≤ count) × (count ≤ 18) × (1 ≤ power) × (power ≡ 10 ^ (count - 1)) × (1 < count → power ≤ n)
 
 -- k digits more
 more : (n count power k : ℕ) → n < 10 ^ 18 → Counting n count power → power * 10 ^ k ≤ n → 1 ≤ power * 10 ^ k →

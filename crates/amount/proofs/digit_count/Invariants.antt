@@ -4,6 +4,9 @@ use native.Mathlib.Omega.{arith}
 use Rattle.amount.proofs.Digits.{count_short, count-step, counted}
 use Rattle.amount.proofs.digit_count.Given as goal
 
+abbrev pub Counting : ℕ → ℕ → ℕ → Type 0
+Counting n count power = (1 ≤ count) × (count ≤ 18) × (1 ≤ power) × (power ≡ 10 ^ (count - 1)) × (1 < count → power ≤ n)
+
 abbrev pub invariant-loop-power : goal.invariant-loop-power
 invariant-loop-power l = Counting l.n l.count l.power
 

@@ -8,10 +8,8 @@ use Rattle.answer_line.proofs.put_line.Goals as goal
 
 pub returns : goal.returns
 returns c =
-    let mark = c in
-    let number = mark in
-    let old = number.args.out.now in
-    let digits = put_more (put_more number.put_number-a.ensures mark.put_next-b.ensures) mark.put_next-c.ensures in
+    let old = c.args.out.now in
+    let digits = put_more (put_more c.put_number-a.ensures c.put_next-b.ensures) c.put_next-c.ensures in
     let all = put_more (put_more digits c.put_list-d.ensures) (byte_put _ _ 10) in
     let room : c.put_list-d.result + 1 ≤ length old = omega arith in
     let told = line_put _ _ _ _ _ _ _ _ c.shown-numbers.ensures room all in

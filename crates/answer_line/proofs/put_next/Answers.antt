@@ -15,5 +15,4 @@ shape_of-out c = ap length c.put_number.ensures.stored ∙ simp (length-sets, le
 
 pub returns : goal.returns
 returns c =
-    let s = c in
-    put_more (byte_put s.args.out.now s.args.at 32) c.put_number.ensures
+    put_more (byte_put c.args.out.now c.args.at 32) c.put_number.ensures

@@ -11,31 +11,29 @@ use Rattle.answer_line.proofs.put_number.Goals as goal
 
 pub overflow_add-result : goal.overflow_add-result
 overflow_add-result c =
-    let s = c in
-    let e = (let fact : c.write_amount-written.result ≡ Length (length (decimal_text c.args.n)) = let s = c in written s.args.out.now s.args.at s.args.n s.requires ((let fact : s.args.n < 2 ^ 32 = search rules in fact)) _ c.write_amount-written.ensures.0 in fact) in
-    let l : c.written.given.0.0 ≡ length (decimal_text s.args.n) = cc c.written.given.1 in
-    omega (arith, l, ten_digits s.args.n ((let fact : s.args.n < 2 ^ 32 = search rules in fact)))
+    let e = (let fact : c.write_amount-written.result ≡ Length (length (decimal_text c.args.n)) = written c.args.out.now c.args.at c.args.n c.requires (let fact : c.args.n < 2 ^ 32 = search rules in fact) _ c.write_amount-written.ensures.0 in fact) in
+    let l : c.in-Length.length ≡ length (decimal_text c.args.n) = cc c.in-Length.is in
+    omega (arith, l, ten_digits c.args.n (let fact : c.args.n < 2 ^ 32 = search rules in fact))
 
 pub returns-in-Length : goal.returns-in-Length
 returns-in-Length c =
-    let s = c in
     let w = c.write_amount-written.ensures in
-    number_put _ _ _ s.requires ((let fact : s.args.n < 2 ^ 32 = search rules in fact)) _ _ _ w.0 w.1 c.written.given.1
+    number_put _ _ _ c.requires (let fact : c.args.n < 2 ^ 32 = search rules in fact) _ _ _ w.0 w.1 c.in-Length.is
 
 pub returns-in-NotInForm : goal.returns-in-NotInForm
 returns-in-NotInForm c =
-    let e = (let fact : c.write_amount-written.result ≡ Length (length (decimal_text c.args.n)) = let s = c in written s.args.out.now s.args.at s.args.n s.requires ((let fact : s.args.n < 2 ^ 32 = search rules in fact)) _ c.write_amount-written.ensures.0 in fact) in
-    let z : ◌≡◌ {A = ℕ} 0 1 = cc c.enum_told.given.1 in
+    let e = (let fact : c.write_amount-written.result ≡ Length (length (decimal_text c.args.n)) = written c.args.out.now c.args.at c.args.n c.requires (let fact : c.args.n < 2 ^ 32 = search rules in fact) _ c.write_amount-written.ensures.0 in fact) in
+    let z : ◌≡◌ {A = ℕ} 0 1 = cc c.in-NotInForm.is in
     absurd (omega arith)
 
 pub returns-in-OutsideYears : goal.returns-in-OutsideYears
 returns-in-OutsideYears c =
-    let e = (let fact : c.write_amount-written.result ≡ Length (length (decimal_text c.args.n)) = let s = c in written s.args.out.now s.args.at s.args.n s.requires ((let fact : s.args.n < 2 ^ 32 = search rules in fact)) _ c.write_amount-written.ensures.0 in fact) in
-    let z : ◌≡◌ {A = ℕ} 0 1 = cc c.enum_told-in-OutsideYears-1.given.1 in
+    let e = (let fact : c.write_amount-written.result ≡ Length (length (decimal_text c.args.n)) = written c.args.out.now c.args.at c.args.n c.requires (let fact : c.args.n < 2 ^ 32 = search rules in fact) _ c.write_amount-written.ensures.0 in fact) in
+    let z : ◌≡◌ {A = ℕ} 0 1 = cc c.in-OutsideYears.is in
     absurd (omega arith)
 
 pub returns-in-NoRoom : goal.returns-in-NoRoom
 returns-in-NoRoom c =
-    let e = (let fact : c.write_amount-written.result ≡ Length (length (decimal_text c.args.n)) = let s = c in written s.args.out.now s.args.at s.args.n s.requires ((let fact : s.args.n < 2 ^ 32 = search rules in fact)) _ c.write_amount-written.ensures.0 in fact) in
-    let z : ◌≡◌ {A = ℕ} 0 1 = cc c.enum_told-in-NoRoom-1.given.1 in
+    let e = (let fact : c.write_amount-written.result ≡ Length (length (decimal_text c.args.n)) = written c.args.out.now c.args.at c.args.n c.requires (let fact : c.args.n < 2 ^ 32 = search rules in fact) _ c.write_amount-written.ensures.0 in fact) in
+    let z : ◌≡◌ {A = ℕ} 0 1 = cc c.in-NoRoom.is in
     absurd (omega arith)

@@ -5,6 +5,6 @@ use Rattle.base64url.proofs.four_letters.Goals as goal
 
 pub returns : goal.returns
 returns c =
-    four_tests _ _ _ _ _ _ _ _ c.value_of_lem.ensures c.value_of-b.ensures
+    four_tests _ _ _ _ _ _ _ _ c.value_of-a.ensures c.value_of-b.ensures
     c.value_of-c.ensures
     c.value_of-d.ensures

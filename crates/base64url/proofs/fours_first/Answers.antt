@@ -15,5 +15,5 @@ loop-i-preserved c =
     let a = c.args in (
       search rules,
       count_four a.end a.s.now l.i _ l.invariant.1 (search rules) (search rules)
-          (rw c.four_letters.ensures at (not-false c.four_letters.result c.if-not-four_letters.false)),
+          (rw c.four_letters.ensures at (not-false c.four_letters.result c.if-not-four_letters.false-raw)),
     )

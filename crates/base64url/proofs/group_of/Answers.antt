@@ -10,15 +10,15 @@ use Rattle.base64url.proofs.Groups.{all_small, group_yes, group_no}
 use Rattle.base64url.proofs.group_of.Goals as goal
 
 pub returns-then-not-four_letters : goal.returns-then-not-four_letters
-returns-then-not-four_letters c = group_no _ _ _ _ (sym c.four_letters.ensures ∙ not-true _ c.if-not-four_letters.true)
+returns-then-not-four_letters c = group_no _ _ _ _ (sym c.four_letters.ensures ∙ not-true _ c.if-not-four_letters.true-raw)
 
 small : (c : goal.After-value_of-d) →
-    (c.value_of_lem.result < 64) × (c.value_of-b.result < 64)
+    (c.value_of-a.result < 64) × (c.value_of-b.result < 64)
     × (c.value_of-c.result < 64) × (c.value_of-d.result < 64)
 small c =
-    all_small _ _ _ _ _ _ _ _ c.value_of_lem.ensures c.value_of-b.ensures
+    all_small _ _ _ _ _ _ _ _ c.value_of-a.ensures c.value_of-b.ensures
     c.value_of-c.ensures
-    c.value_of-d.ensures ((let fact : let a = c.args in four_letters a.p a.q a.r a.s ≡ true = sym c.four_letters.ensures ∙ not-false _ c.if-not-four_letters.false in fact))
+    c.value_of-d.ensures (let fact : let a = c.args in four_letters a.p a.q a.r a.s ≡ true = sym c.four_letters.ensures ∙ not-false _ c.if-not-four_letters.false-raw in fact)
 
 pub overflow_mul-first : goal.overflow_mul-first
 overflow_mul-first c = record { fits = omega (arith, small c) }
@@ -34,6 +34,6 @@ overflow_add-third c = record { fits = omega (arith, small c) }
 
 pub returns : goal.returns
 returns c =
-    group_yes _ _ _ _ _ _ _ _ c.value_of_lem.ensures c.value_of-b.ensures
+    group_yes _ _ _ _ _ _ _ _ c.value_of-a.ensures c.value_of-b.ensures
     c.value_of-c.ensures
-    c.value_of-d.ensures ((let fact : let a = c.args in four_letters a.p a.q a.r a.s ≡ true = sym c.four_letters.ensures ∙ not-false _ c.if-not-four_letters.false in fact))
+    c.value_of-d.ensures (let fact : let a = c.args in four_letters a.p a.q a.r a.s ≡ true = sym c.four_letters.ensures ∙ not-false _ c.if-not-four_letters.false-raw in fact)

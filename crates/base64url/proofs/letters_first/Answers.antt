@@ -23,7 +23,7 @@ pub returns-then-value_of-ge64 : goal.returns-then-value_of-ge64
 returns-then-value_of-ge64 c =
     let l = c.loop-i in
     let s = c.args.s.now in (
-      count-stops _ s l.i _ l.invariant.2 (search rules) (search rules) (rw c.value_of_lem.ensures at c.if-value_of-ge64.true),
+      count-stops _ s l.i _ l.invariant.2 (search rules) (search rules) (rw c.value_of.ensures at c.if-value_of-ge64.true),
       bytes s (λ k. (c.shared_slice_known-1.given k).fits),
     )
 
@@ -33,7 +33,7 @@ loop-i-preserved c =
     let s = c.args.s.now in (
       search rules,
       l.invariant.1,
-      count-goes _ s l.i _ l.invariant.2 (search rules) (search rules) (rw c.value_of_lem.ensures at c.if-value_of-ge64.false),
+      count-goes _ s l.i _ l.invariant.2 (search rules) (search rules) (rw c.value_of.ensures at c.if-value_of-ge64.false),
     )
 
 pub returns : goal.returns

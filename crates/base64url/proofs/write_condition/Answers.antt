@@ -12,5 +12,4 @@ returns-then-out-lt43 c = (no_room _ _ c.if-bytes-ne32.false c.if-out-lt43.true,
 
 pub returns : goal.returns
 returns c =
-    let e = c in
-    (room_enough _ _ e.if-bytes-ne32.false e.if-out-lt43.false, c.put_text.ensures)
+    (room_enough _ _ c.if-bytes-ne32.false c.if-out-lt43.false, c.put_text.ensures)

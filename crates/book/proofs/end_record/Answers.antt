@@ -5,12 +5,10 @@ use Rattle.book.proofs.end_record.Goals as goal
 
 pub settle-next-requires : goal.settle-next-requires
 settle-next-requires c =
-    let a = c in
-    rw (lent_row a.args.opened.now a.args.slot) a.requires.settles
+    rw (lent_row c.args.opened.now c.args.slot) c.requires.settles
 
 pub returns : goal.returns
 returns c =
-    let a = c in
     let moved = c.move_ended.ensures in
     let settled = c.settle-next.ensures in
-    (rw (← lent_row a.args.opened.now a.args.slot) settled, moved.0, moved.1)
+    (rw (← lent_row c.args.opened.now c.args.slot) settled, moved.0, moved.1)

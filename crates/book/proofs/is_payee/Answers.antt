@@ -11,5 +11,5 @@ is_named-requires c =
 pub returns : goal.returns
 returns c =
     let r = c.requires in
-    let h = c.args.t1 in
+    let h = c.args.h in
     rw (c.is_named.ensures, c.payee_of-payee.ensures, name_at h _ r.payee)

@@ -18,17 +18,15 @@ judged : (s : List ℕ) (v : Verdict) → ((k : ℕ) → get_or s k 0 < 256) →
 judged s v b e = e ∙ verdict-is s (bytes s b)
 
 pub instant-requires : goal.instant-requires
-instant-requires c = sym c.verdict-found.ensures ∙ c.enum_told.given.1
+instant-requires c = sym c.verdict-found.ensures ∙ c.in-Fits.is
 
 pub returns-in-Fits : goal.returns-in-Fits
-returns-in-Fits c = let known = c in
-    let s = known.args.s.now in
+returns-in-Fits c = let s = c.args.s.now in
     let found = c.verdict-found in
-    read_value s _ (judged s _ (λ (k : ℕ). (known.shared_slice_known-1.given k).fits) found.ensures) c.enum_told.given.1 _
+    read_value s _ (judged s _ (λ (k : ℕ). (c.shared_slice_known-1.given k).fits) found.ensures) c.in-Fits.is _
     (to_z-of_z (record { sfits = c.instant.type-inv }) ∙ c.instant.ensures)
 
 pub returns-in-Stops : goal.returns-in-Stops
-returns-in-Stops c = let known = c in
-    let s = known.args.s.now in
+returns-in-Stops c = let s = c.args.s.now in
     let found = c.verdict-found in
-    read-refused s _ (judged s _ (λ (k : ℕ). (known.shared_slice_known-1.given k).fits) found.ensures) _ c.found.given.1
+    read-refused s _ (judged s _ (λ (k : ℕ). (c.shared_slice_known-1.given k).fits) found.ensures) _ c.in-Stops.is

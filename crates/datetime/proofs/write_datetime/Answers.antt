@@ -18,9 +18,8 @@ judged : {z : ℤ} {a b : Bool} → SFits w64 z → a ≡ in_years (to_z w64 (of
 judged f e t = sym (ap in_years (to_z-of_z f)) ∙ sym e ∙ t
 
 pub returns-then-out-lt24 : goal.returns-then-out-lt24
-returns-then-out-lt24 c = let s = c in
-    let at = c.in_years in (
-      no_room s.args.ms (length s.args.out.now) (judged s.ranges.ms at.ensures c.if-in_years.true) c.if-out-lt24.true,
+returns-then-out-lt24 c = let at = c.in_years in (
+      no_room c.args.ms (length c.args.out.now) (judged c.ranges.ms at.ensures c.if-in_years.true) c.if-out-lt24.true,
       refl,
     )
 
@@ -31,16 +30,13 @@ pub put-requires : goal.put-requires
 put-requires c = (ap length c.text_of-text.ensures ∙ text_long _, c.if-out-lt24.false)
 
 pub returns-then-in_years : goal.returns-then-in_years
-returns-then-in_years c = let s = c in
-    let at = c.in_years in
-    let known = c in
-    let old = s.args.out.now in
-    let z = s.args.ms in (
-      written z (length old) (judged s.ranges.ms at.ensures known.if-in_years.true) known.if-out-lt24.false,
+returns-then-in_years c = let at = c.in_years in
+    let old = c.args.out.now in
+    let z = c.args.ms in (
+      written z (length old) (judged c.ranges.ms at.ensures c.if-in_years.true) c.if-out-lt24.false,
       c.put.ensures
-          ∙ ap (λ (x : List ℕ). x ++ drop 24 old) (known.text_of-text.ensures ∙ ap date_time_text (to_z-of_z s.ranges.ms)),
+          ∙ ap (λ (x : List ℕ). x ++ drop 24 old) (c.text_of-text.ensures ∙ ap date_time_text (to_z-of_z c.ranges.ms)),
     )
 
 pub returns : goal.returns
-returns c = let s = c in
-    (outside s.args.ms (length s.args.out.now) (judged s.ranges.ms c.in_years.ensures c.if-in_years.false), refl)
+returns c = (outside c.args.ms (length c.args.out.now) (judged c.ranges.ms c.in_years.ensures c.if-in_years.false), refl)

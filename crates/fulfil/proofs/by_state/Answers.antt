@@ -12,28 +12,21 @@ fulfilment-part r = refl
 
 pub returns-then-part-eq2 : goal.returns-then-part-eq2
 returns-then-part-eq2 c = λ content e.
-    let a = c in
-    rw (state_reserved a.args.part.now a.requires c.if-part-eq2.true, e, c.matching.ensures)
+    rw (state_reserved c.args.part.now c.requires c.if-part-eq2.true, e, c.matching.ensures)
 
 pub returns-then-part-eq3 : goal.returns-then-part-eq3
 returns-then-part-eq3 c = λ content e.
-    let committed = c in
-    let a = committed in
     rw (
-      state_committed a.args.part.now a.requires committed.if-part-eq3.true,
+      state_committed c.args.part.now c.requires c.if-part-eq3.true,
       c.resend.ensures,
       c.same.ensures,
-      fulfilment-part a.args.part.now,
+      fulfilment-part c.args.part.now,
     )
 
 pub returns-then-part-eq2-2 : goal.returns-then-part-eq2-2
 returns-then-part-eq2-2 c = λ content e.
-    let other = c in
-    let a = other in
-    rw (state_aborted a.args.part.now a.requires other.if-part-eq2.false other.if-part-eq3.false c.if-part-eq2-2.true)
+    rw (state_aborted c.args.part.now c.requires c.if-part-eq2.false c.if-part-eq3.false c.if-part-eq2-2.true)
 
 pub returns : goal.returns
 returns c = λ content e.
-    let other = c in
-    let a = other in
-    rw (state_expired a.args.part.now a.requires other.if-part-eq2.false other.if-part-eq3.false c.if-part-eq2-2.false)
+    rw (state_expired c.args.part.now c.requires c.if-part-eq2.false c.if-part-eq3.false c.if-part-eq2-2.false)

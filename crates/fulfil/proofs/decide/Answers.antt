@@ -16,33 +16,23 @@ find-place-requires c = in_books _ ((let fact : Sound (book_of c.args.h c.args.o
 
 pub on_record-requires : goal.on_record-requires
 on_record-requires c =
-    let f = c in
-    let a = f in
-    found_opened _ ((let fact : Sound (book_of a.args.h a.args.opened.now a.args.ended.now) = shape.sound _ ((let fact : length a.args.h.accounts ≡ 32 = search (rules, length_unmap) depth 8 in fact)) a.requires in fact)) a.args.id _ (sym f.find-place.ensures ∙ c.place.given.1)
+    found_opened _ ((let fact : Sound (book_of c.args.h c.args.opened.now c.args.ended.now) = shape.sound _ ((let fact : length c.args.h.accounts ≡ 32 = search (rules, length_unmap) depth 8 in fact)) c.requires in fact)) c.args.id _ (sym c.find-place.ensures ∙ c.in-Opened.is)
 
 pub on_record-requires-in-Ended : goal.on_record-requires-in-Ended
 on_record-requires-in-Ended c =
-    let f = c in
-    let a = f in
-    found-ended _ ((let fact : Sound (book_of a.args.h a.args.opened.now a.args.ended.now) = shape.sound _ ((let fact : length a.args.h.accounts ≡ 32 = search (rules, length_unmap) depth 8 in fact)) a.requires in fact)) a.args.id _ (sym f.find-place.ensures ∙ c.place-in-Ended-1.given.1)
+    found-ended _ ((let fact : Sound (book_of c.args.h c.args.opened.now c.args.ended.now) = shape.sound _ ((let fact : length c.args.h.accounts ≡ 32 = search (rules, length_unmap) depth 8 in fact)) c.requires in fact)) c.args.id _ (sym c.find-place.ensures ∙ c.in-Ended.is)
 
 pub returns-in-Opened : goal.returns-in-Opened
 returns-in-Opened c =
-    let f = c in
-    let a = f in
-    decided_opened _ ((let fact : Sound (book_of a.args.h a.args.opened.now a.args.ended.now) = shape.sound _ ((let fact : length a.args.h.accounts ≡ 32 = search (rules, length_unmap) depth 8 in fact)) a.requires in fact)) _ a.args.id (by_state a.args.fulfilment) (ends a.args.fulfilment) _ _
-    (sym f.find-place.ensures ∙ c.place.given.1) c.on_record.ensures
+    decided_opened _ ((let fact : Sound (book_of c.args.h c.args.opened.now c.args.ended.now) = shape.sound _ ((let fact : length c.args.h.accounts ≡ 32 = search (rules, length_unmap) depth 8 in fact)) c.requires in fact)) _ c.args.id (by_state c.args.fulfilment) (ends c.args.fulfilment) _ _
+    (sym c.find-place.ensures ∙ c.in-Opened.is) c.on_record.ensures
 
 pub returns-in-Ended : goal.returns-in-Ended
 returns-in-Ended c =
-    let f = c in
-    let a = f in
-    decided-ended _ ((let fact : Sound (book_of a.args.h a.args.opened.now a.args.ended.now) = shape.sound _ ((let fact : length a.args.h.accounts ≡ 32 = search (rules, length_unmap) depth 8 in fact)) a.requires in fact)) _ a.args.id (by_state a.args.fulfilment) (ends a.args.fulfilment) _ _ 0
-    (sym f.find-place.ensures ∙ c.place-in-Ended-1.given.1) c.on_record-in-Ended.ensures
+    decided-ended _ ((let fact : Sound (book_of c.args.h c.args.opened.now c.args.ended.now) = shape.sound _ ((let fact : length c.args.h.accounts ≡ 32 = search (rules, length_unmap) depth 8 in fact)) c.requires in fact)) _ c.args.id (by_state c.args.fulfilment) (ends c.args.fulfilment) _ _ 0
+    (sym c.find-place.ensures ∙ c.in-Ended.is) c.on_record-in-Ended.ensures
 
 pub returns-in-Nowhere : goal.returns-in-Nowhere
 returns-in-Nowhere c =
-    let f = c in
-    let a = f in
-    decided_nowhere _ ((let fact : Sound (book_of a.args.h a.args.opened.now a.args.ended.now) = shape.sound _ ((let fact : length a.args.h.accounts ≡ 32 = search (rules, length_unmap) depth 8 in fact)) a.requires in fact)) _ a.args.id (by_state a.args.fulfilment) (ends a.args.fulfilment) _ 0
-    (sym f.find-place.ensures ∙ c.enum_told.given.1) c.decided.ensures
+    decided_nowhere _ ((let fact : Sound (book_of c.args.h c.args.opened.now c.args.ended.now) = shape.sound _ ((let fact : length c.args.h.accounts ≡ 32 = search (rules, length_unmap) depth 8 in fact)) c.requires in fact)) _ c.args.id (by_state c.args.fulfilment) (ends c.args.fulfilment) _ 0
+    (sym c.find-place.ensures ∙ c.in-Nowhere.is) c.decided.ensures

@@ -15,21 +15,17 @@ use Rattle.fulfil.proofs.in_shape.Goals as goal
 
 pub returns-then-not-fits : goal.returns-then-not-fits
 returns-then-not-fits c =
-    let f = c in
-    let a = (f) in
-    rw c.reply.ensures (formless ((let fact : Book = book_of a.args.h a.args.opened.now a.args.ended.now in fact)) a.args.sender.now a.args.id.now a.args.fulfilment.now a.pre
+    let a = (c) in
+    rw c.reply.ensures (formless (book_of a.args.h a.args.opened.now a.args.ended.now) a.args.sender.now a.args.id.now a.args.fulfilment.now a.pre
     (tested_form a.args.sender.now a.args.id.now a.args.fulfilment.now false
-    (sym ((let fact : (let fact : Bool = (f.fits-2.result && f.fits-3.result) && f.fits4.result in fact) ≡ tested ((f)).args.sender.now ((f)).args.id.now ((f)).args.fulfilment.now = ap₂ ◌&&◌ (ap₂ ◌&&◌ (f.fits-2.ensures ∙ ap fits f.read_name.ensures) (f.fits-3.ensures ∙ ap (λ (r : IdRead). fits r.verdict) (f).read_id-id_read.ensures ∙ ap fits (id_verdict ((f)).args.id.now))) (f.fits4.ensures ∙ ap (λ (r : ConditionRead). fits r.verdict) (f).read_condition-read.ensures ∙ ap fits (condition_verdict ((f)).args.fulfilment.now)) in fact)) ∙ not-true ((let fact : Bool = (f.fits-2.result && f.fits-3.result) && f.fits4.result in fact)) c.if-not-fits.true)))
+    (sym ((let fact : ((c.fits-2.result && c.fits-3.result) && c.fits.result) ≡ tested (c).args.sender.now (c).args.id.now (c).args.fulfilment.now = ap₂ ◌&&◌ (ap₂ ◌&&◌ (c.fits-2.ensures ∙ ap fits c.read_name.ensures) (c.fits-3.ensures ∙ ap (λ (r : IdRead). fits r.verdict) c.read_id-id_read.ensures ∙ ap fits (id_verdict (c).args.id.now))) (c.fits.ensures ∙ ap (λ (r : ConditionRead). fits r.verdict) c.read_condition-read.ensures ∙ ap fits (condition_verdict (c).args.fulfilment.now)) in fact)) ∙ not-true (((c.fits-2.result && c.fits-3.result) && c.fits.result)) c.if-not-fits.true-raw)))
 
 pub returns : goal.returns
 returns c =
-    let settled = c in
-    let left = settled in
-    let f = left in
-    let a = (f) in
-    let all = sym ((let fact : (let fact : Bool = (f.fits-2.result && f.fits-3.result) && f.fits4.result in fact) ≡ tested ((f)).args.sender.now ((f)).args.id.now ((f)).args.fulfilment.now = ap₂ ◌&&◌ (ap₂ ◌&&◌ (f.fits-2.ensures ∙ ap fits f.read_name.ensures) (f.fits-3.ensures ∙ ap (λ (r : IdRead). fits r.verdict) (f).read_id-id_read.ensures ∙ ap fits (id_verdict ((f)).args.id.now))) (f.fits4.ensures ∙ ap (λ (r : ConditionRead). fits r.verdict) (f).read_condition-read.ensures ∙ ap fits (condition_verdict ((f)).args.fulfilment.now)) in fact)) ∙ not-false ((let fact : Bool = (f.fits-2.result && f.fits-3.result) && f.fits4.result in fact)) left.if-not-fits.false in
-    settled.settle.ensures
-    ∙ ruled ((let fact : Book = book_of a.args.h a.args.opened.now a.args.ended.now in fact)) a.args.sender.now a.args.id.now a.args.fulfilment.now a.pre
+    let a = (c) in
+    let all = sym ((let fact : ((c.fits-2.result && c.fits-3.result) && c.fits.result) ≡ tested (c).args.sender.now (c).args.id.now (c).args.fulfilment.now = ap₂ ◌&&◌ (ap₂ ◌&&◌ (c.fits-2.ensures ∙ ap fits c.read_name.ensures) (c.fits-3.ensures ∙ ap (λ (r : IdRead). fits r.verdict) c.read_id-id_read.ensures ∙ ap fits (id_verdict (c).args.id.now))) (c.fits.ensures ∙ ap (λ (r : ConditionRead). fits r.verdict) c.read_condition-read.ensures ∙ ap fits (condition_verdict (c).args.fulfilment.now)) in fact)) ∙ not-false (((c.fits-2.result && c.fits-3.result) && c.fits.result)) c.if-not-fits.false-raw in
+    c.settle.ensures
+    ∙ ruled (book_of a.args.h a.args.opened.now a.args.ended.now) a.args.sender.now a.args.id.now a.args.fulfilment.now a.pre
     (tested_form a.args.sender.now a.args.id.now a.args.fulfilment.now true all) _ _
-    (id_read a.args.sender.now a.args.id.now a.args.fulfilment.now all _ (f).read_id-id_read.ensures)
-    (fulfilment_read a.args.sender.now a.args.id.now a.args.fulfilment.now all _ (f).read_condition-read.ensures)
+    (id_read a.args.sender.now a.args.id.now a.args.fulfilment.now all _ c.read_id-id_read.ensures)
+    (fulfilment_read a.args.sender.now a.args.id.now a.args.fulfilment.now all _ c.read_condition-read.ensures)

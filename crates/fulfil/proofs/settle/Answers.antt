@@ -15,17 +15,14 @@ use Rattle.fulfil.proofs.settle.Goals as goal
 
 pub carry_out-requires : goal.carry_out-requires
 carry_out-requires c =
-    let d = c in
-    let a = d in
+    let a = c in
     record {
       byte = omega arith;
-      ends = decided_ends ((let fact : Book = book_of a.args.h a.args.opened.now a.args.ended.now in fact)) _ _ (by_state a.args.fulfilment) _ d.decide-d.ensures ((let fact : Sound ((let fact : Book = book_of a.args.h a.args.opened.now a.args.ended.now in fact)) = shape.sound ((let fact : Book = book_of a.args.h a.args.opened.now a.args.ended.now in fact)) ((let fact : length a.args.h.accounts ≡ 32 = search (rules, length_unmap) depth 8 in fact)) a.requires in fact)) (num payee_field) (λ r s. s.payee);
+      ends = decided_ends (book_of a.args.h a.args.opened.now a.args.ended.now) _ _ (by_state a.args.fulfilment) _ c.decide-d.ensures ((let fact : Sound (book_of a.args.h a.args.opened.now a.args.ended.now) = shape.sound (book_of a.args.h a.args.opened.now a.args.ended.now) ((let fact : length a.args.h.accounts ≡ 32 = search (rules, length_unmap) depth 8 in fact)) a.requires in fact)) (num payee_field) (λ r s. s.payee);
     }
 
 pub returns : goal.returns
 returns c =
-    let carried = c in
-    let d = carried in
-    let a = d in
-    carried.carry_out.ensures
-    ∙ decided_leaves ((let fact : Book = book_of a.args.h a.args.opened.now a.args.ended.now in fact)) _ _ (by_state a.args.fulfilment) _ d.decide-d.ensures (num payee_field) (ended_row 3 1 0 a.args.fulfilment)
+    let a = c in
+    c.carry_out.ensures
+    ∙ decided_leaves (book_of a.args.h a.args.opened.now a.args.ended.now) _ _ (by_state a.args.fulfilment) _ c.decide-d.ensures (num payee_field) (ended_row 3 1 0 a.args.fulfilment)

@@ -7,9 +7,6 @@ use Rattle.head_form.proofs.account_at.Goals as goal
 
 pub returns : goal.returns
 returns c =
-    let last = c in
-    let third = last in
-    let first = third in
-    let a = first.args in
-    account_is a.b.now a.at first.name_at-name.ensures refl third.number.ensures.0 third.two.ensures
-    (to_z-of_z (record { sfits = last.signed_at.type-inv }) ∙ last.signed_at.ensures) last.two-2.ensures
+    let a = c.args in
+    account_is a.b.now a.at c.name_at-name.ensures refl c.number.ensures.0 c.two.ensures
+    (to_z-of_z (record { sfits = c.signed_at.type-inv }) ∙ c.signed_at.ensures) c.two-2.ensures

@@ -13,7 +13,7 @@ use Rattle.head_form.proofs.accounts_of.Goals as goal
 
 pub loop-k-init : goal.loop-k-init
 unfolding build
-loop-k-init c = (search rules, search rules, refl, ap (λ (a : Account). a ∷ []) c.account_at_lem.ensures)
+loop-k-init c = (search rules, search rules, refl, ap (λ (a : Account). a ∷ []) c.account_at-first.ensures)
 
 pub loop-k-preserved : goal.loop-k-preserved
 loop-k-preserved c =

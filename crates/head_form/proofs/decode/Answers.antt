@@ -8,10 +8,7 @@ use Rattle.head_form.proofs.decode.Goals as goal
 
 pub returns : goal.returns
 returns c =
-    let s = c in
-    let first = s in
-    let start = first in
-    let b = start.args.b.now in
-    head-is b first.accounts_of-accounts.ensures refl (currency_is b 8 (omega (arith, start.requires)))
-    (to_z-of_z (record { sfits = s.signed_at.type-inv }) ∙ s.signed_at.ensures)
+    let b = c.args.b.now in
+    head-is b c.accounts_of-accounts.ensures refl (currency_is b 8 (omega (arith, c.requires)))
+    (to_z-of_z (record { sfits = c.signed_at.type-inv }) ∙ c.signed_at.ensures)
     c.two.ensures c.two-2.ensures c.two-3.ensures

@@ -5,8 +5,5 @@ use Rattle.head_form.proofs.encode.Goals as goal
 
 pub returns : goal.returns
 returns c =
-    let second = c in
-    let first = second in
-    let start = first in
-    rw (second.put_accounts.ensures.0, first.put_front.ensures.0)
-    (head_stored start.args.b.now start.args.h start.requires first.put_front.ensures.1 second.put_accounts.ensures.1)
+    rw (c.put_accounts.ensures.0, c.put_front.ensures.0)
+    (head_stored c.args.b.now c.args.h c.requires c.put_front.ensures.1 c.put_accounts.ensures.1)

@@ -25,7 +25,7 @@ loop-k-init c = (search rules, c.zero_at-ok.ensures ∙ sym (and-true _))
 pub loop-k-preserved : goal.loop-k-preserved
 loop-k-preserved c =
     let b = c.args.b.now in
-    (search rules, places_more b _ _ (all_zero (part b 18 14)) _ _ c.loop-k.invariant.1 c.place_formed_lem.ensures)
+    (search rules, places_more b _ _ (all_zero (part b 18 14)) _ _ c.loop-k.invariant.1 c.place_formed-ok.ensures)
 
 pub returns : goal.returns
 unfolding is_formed

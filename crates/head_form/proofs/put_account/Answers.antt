@@ -7,10 +7,7 @@ use Rattle.head_form.proofs.put_account.Goals as goal
 
 pub returns : goal.returns
 returns c =
-    let second = c in
-    let first = second in
-    let start = first in
-    let a = start.args in (
-      rw (second.put_remainders.ensures, first.put_units.ensures) (account_stored a.b.now a.at a.a ((let fact : length start.args.a.name ≡ 32 = search rules in fact))),
-      length_account a.a ((let fact : length start.args.a.name ≡ 32 = search rules in fact)),
+    let a = c.args in (
+      rw (c.put_remainders.ensures, c.put_units.ensures) (account_stored a.b.now a.at a.a (let fact : length c.args.a.name ≡ 32 = search rules in fact)),
+      length_account a.a (let fact : length c.args.a.name ≡ 32 = search rules in fact),
     )

@@ -14,25 +14,22 @@ unfolding accounts_bytes
 loop-k-init c = (search rules, refl, refl)
 
 pub put_account-requires : goal.put_account-requires
-put_account-requires c = omega (arith, (let fact : length c.loop-k.b ≡ length c.args.b.now = let a = c.args in ap length c.loop-k.invariant.1 ∙ length-sets a.b.now 32 (accounts_bytes (take c.loop-k.k a.t2.accounts)) in fact))
+put_account-requires c = omega (arith, (let fact : length c.loop-k.b ≡ length c.args.b.now = let a = c.args in ap length c.loop-k.invariant.1 ∙ length-sets a.b.now 32 (accounts_bytes (take c.loop-k.k a.h.accounts)) in fact))
 
 pub loop-k-preserved : goal.loop-k-preserved
 loop-k-preserved c =
-    let w = c in
-    let l = w.loop-k in
-    let s = w in
-    let more = accounts_more s.args.b.now l.b _ s.args.t2.accounts 32 l.k l.invariant.1 l.invariant.2
-    w.put_account.ensures.0 w.put_account.ensures.1 (omega (arith, (let fact : length s.args.t2.accounts ≡ 32 = simp length-map at s.well-formed.1.0.1.1.0.1.0.1 in fact))) in
+    let l = c.loop-k in
+    let more = accounts_more c.args.b.now l.b _ c.args.h.accounts 32 l.k l.invariant.1 l.invariant.2
+    c.put_account.ensures.0 c.put_account.ensures.1 (omega (arith, (let fact : length c.args.h.accounts ≡ 32 = simp length-map at c.well_formed.1.0.1.1.0.1.0.1 in fact))) in
     (search rules, more.0, more.1)
 
 pub shape_of-b : goal.shape_of-b
-shape_of-b c = (let fact : length c.loop-k.b ≡ length c.args.b.now = let a = c.args in ap length c.loop-k.invariant.1 ∙ length-sets a.b.now 32 (accounts_bytes (take c.loop-k.k a.t2.accounts)) in fact)
+shape_of-b c = (let fact : length c.loop-k.b ≡ length c.args.b.now = let a = c.args in ap length c.loop-k.invariant.1 ∙ length-sets a.b.now 32 (accounts_bytes (take c.loop-k.k a.h.accounts)) in fact)
 
 pub returns : goal.returns
 returns c =
     let l = c.loop-k in
-    let s = c in
-    let accounts = s.args.t2.accounts in
+    let accounts = c.args.h.accounts in
     let e : l.k ≡ 32 = omega arith in
-    let all : take l.k accounts ≡ accounts = take_all l.k accounts (omega (arith, (let fact : length s.args.t2.accounts ≡ 32 = simp length-map at s.well-formed.1.0.1.1.0.1.0.1 in fact))) in
+    let all : take l.k accounts ≡ accounts = take_all l.k accounts (omega (arith, (let fact : length c.args.h.accounts ≡ 32 = simp length-map at c.well_formed.1.0.1.1.0.1.0.1 in fact))) in
     (rw (← all) l.invariant.1, rw (← all) (l.invariant.2 ∙ (rw e)))

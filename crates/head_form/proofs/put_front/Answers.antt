@@ -7,10 +7,7 @@ use Rattle.head_form.proofs.put_front.Goals as goal
 
 pub returns : goal.returns
 returns c =
-    let second = c in
-    let first = second in
-    let start = first in
-    let a = start.args in (
-      rw (second.put_places.ensures, first.put_time.ensures) (front_stored a.b.now a.h ((let fact : length start.args.h.currency ≡ 3 = search rules in fact))),
-      length_front a.h ((let fact : length start.args.h.currency ≡ 3 = search rules in fact)),
+    let a = c.args in (
+      rw (c.put_places.ensures, c.put_time.ensures) (front_stored a.b.now a.h (let fact : length c.args.h.currency ≡ 3 = search rules in fact)),
+      length_front a.h (let fact : length c.args.h.currency ≡ 3 = search rules in fact),
     )

@@ -6,8 +6,4 @@ use Rattle.head_form.proofs.put_places.Goals as goal
 pub returns : goal.returns
 unfolding zeros
 returns c =
-    let last = c in
-    let third = last in
-    let second = third in
-    let first = second in
-    rw (last.put.ensures, third.put_number-3.ensures, second.put_number-2.ensures, first.put_number.ensures)
+    rw (c.put.ensures, c.put_number-3.ensures, c.put_number-2.ensures, c.put_number.ensures)

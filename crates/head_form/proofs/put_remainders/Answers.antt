@@ -11,14 +11,11 @@ pub put-requires : goal.put-requires
 put-requires c = simp length-set (omega arith)
 
 pub shape_of-b : goal.shape_of-b
-shape_of-b c = c.put.auto.0 ∙ (simp length-set (omega arith))
+shape_of-b c = c.put.auto.out ∙ (simp length-set (omega arith))
 
 pub returns : goal.returns
 unfolding zeros
 returns c =
-    let last = c in
-    let second = last in
-    let first = second in
-    let at = first.args.at in
+    let at = c.args.at in
     let e : at + 53 ≡ suc (at + 52) = omega arith in
-    rw (last.put.ensures, e, second.put_number-2.ensures, first.put_number.ensures)
+    rw (c.put.ensures, e, c.put_number-2.ensures, c.put_number.ensures)

@@ -17,11 +17,9 @@ shape_of-b c = simp length-set (omega arith)
 
 pub returns : goal.returns
 returns c =
-    let second = c in
-    let first = second in
     rw (
-      second.put.ensures,
-      first.put_number.ensures,
-      first.unsigned.ensures,
-      to_z-of_z ((let fact : SFits w64 first.args.h.time = search rules in fact)),
+      c.put.ensures,
+      c.put_number.ensures,
+      c.unsigned.ensures,
+      to_z-of_z (search rules),
     )

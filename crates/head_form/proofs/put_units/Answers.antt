@@ -13,13 +13,10 @@ put-requires c = omega (arith, (let fact : length c.args.a.name ≡ 32 = search 
 
 pub returns : goal.returns
 returns c =
-    let third = c in
-    let second = third in
-    let first = second in
     rw (
-      third.put_number-2.ensures,
-      second.put_number.ensures,
-      first.put.ensures,
-      third.unsigned.ensures,
-      to_z-of_z ((let fact : SFits w64 first.args.a.position.units = search rules in fact)),
+      c.put_number-2.ensures,
+      c.put_number.ensures,
+      c.put.ensures,
+      c.unsigned.ensures,
+      to_z-of_z (search rules),
     )

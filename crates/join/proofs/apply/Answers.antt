@@ -8,15 +8,12 @@ use Rattle.join.proofs.apply.Goals as goal
 
 pub with_account-requires : goal.with_account-requires
 with_account-requires c =
-    let s = c in
-    (place-left s.args.h s.args.name.now s.args.cap ((let fact : let s = c.args in is_done (decided s.h s.name.now s.cap) ≡ c.is_done.result = sym (c.is_done.ensures ∙ ap is_done c.decide-answer.ensures) in fact) ∙ c.if-is_done.true), s.requires.2)
+    (place-left c.args.h c.args.name.now c.args.cap ((let fact : let s = c.args in is_done (decided s.h s.name.now s.cap) ≡ c.is_done.result = sym (c.is_done.ensures ∙ ap is_done c.decide-answer.ensures) in fact) ∙ c.if-is_done.true), c.requires.2)
 
 pub returns-then-is_done : goal.returns-then-is_done
 returns-then-is_done c =
-    let t = c in
-    rw (c.reply.ensures, c.with_account.ensures, t.decide-answer.ensures, (let fact : let s = t.args in is_done (decided s.h s.name.now s.cap) ≡ t.is_done.result = sym (t.is_done.ensures ∙ ap is_done t.decide-answer.ensures) in fact) ∙ t.if-is_done.true)
+    rw (c.reply.ensures, c.with_account.ensures, c.decide-answer.ensures, (let fact : let s = c.args in is_done (decided s.h s.name.now s.cap) ≡ c.is_done.result = sym (c.is_done.ensures ∙ ap is_done c.decide-answer.ensures) in fact) ∙ c.if-is_done.true)
 
 pub returns : goal.returns
 returns c =
-    let t = c in
-    rw (c.reply-2.ensures, t.decide-answer.ensures, (let fact : let s = t.args in is_done (decided s.h s.name.now s.cap) ≡ t.is_done.result = sym (t.is_done.ensures ∙ ap is_done t.decide-answer.ensures) in fact) ∙ t.if-is_done.false)
+    rw (c.reply-2.ensures, c.decide-answer.ensures, (let fact : let s = c.args in is_done (decided s.h s.name.now s.cap) ≡ c.is_done.result = sym (c.is_done.ensures ∙ ap is_done c.decide-answer.ensures) in fact) ∙ c.if-is_done.false)

@@ -9,28 +9,22 @@ returns-then-too_high c = rw (sym c.too_high.ensures ∙ c.if-too_high.true)
 
 pub returns-then-place_of-count : goal.returns-then-place_of-count
 returns-then-place_of-count c =
-    let p = c in
-    let low = p in
-    rw (sym low.too_high.ensures ∙ low.if-too_high.false, ← p.place_of.ensures, lt-ltb _ _ c.if-place_of-count.true)
+    rw (sym c.too_high.ensures ∙ c.if-too_high.false, ← c.place_of.ensures, lt-ltb _ _ c.if-place_of-count.true)
 
 pub returns-then-count-ge32 : goal.returns-then-count-ge32
 returns-then-count-ge32 c =
-    let p = c in
-    let low = p in
     rw (
-      sym low.too_high.ensures ∙ low.if-too_high.false,
-      ← p.place_of.ensures,
+      sym c.too_high.ensures ∙ c.if-too_high.false,
+      ← c.place_of.ensures,
       le-ltb _ _ c.if-place_of-count.false,
       le-leb _ _ c.if-count-ge32.true,
     )
 
 pub returns : goal.returns
 returns c =
-    let p = c in
-    let low = p in
     rw (
-      sym low.too_high.ensures ∙ low.if-too_high.false,
-      ← p.place_of.ensures,
+      sym c.too_high.ensures ∙ c.if-too_high.false,
+      ← c.place_of.ensures,
       le-ltb _ _ c.if-place_of-count.false,
       lt-leb _ _ c.if-count-ge32.false,
     )

@@ -25,42 +25,29 @@ use Rattle.join.proofs.join.Goals as goal
 
 pub returns-then-not-is_sound : goal.returns-then-not-is_sound
 returns-then-not-is_sound c =
-    let t = c in
-    let s = t in
     rw c.reply.ensures
-    (join_out_of_shape ((let fact : Book = book_of s.args.h s.args.opened.now s.args.ended.now in fact)) s.args.name.now s.args.cap.now (sym t.is_sound.ensures ∙ not-true _ c.if-not-is_sound.true))
+    (join_out_of_shape (book_of c.args.h c.args.opened.now c.args.ended.now) c.args.name.now c.args.cap.now (sym c.is_sound.ensures ∙ not-true _ c.if-not-is_sound.true-raw))
 
 pub returns-then-not-fits : goal.returns-then-not-fits
 returns-then-not-fits c =
-    let f = c in
-    let s = f in
-    let e = (let fact : is_of name_form f.args.name.now ≡ f.fits2.result = sym (f.fits2.ensures ∙ ap fits f.read_name.ensures) in fact) ∙ not-true _ c.if-not-fits.true in
-    rw c.reply-then-not-fits.ensures (join_not_in_form ((let fact : Book = book_of s.args.h s.args.opened.now s.args.ended.now in fact)) s.args.name.now s.args.cap.now ((let fact : shape ((let fact : Book = book_of f.args.h f.args.opened.now f.args.ended.now in fact)) ≡ true = sym f.is_sound.ensures ∙ not-false _ f.if-not-is_sound.false in fact)) (rw e))
+    let e = (let fact : is_of name_form c.args.name.now ≡ c.fits.result = sym (c.fits.ensures ∙ ap fits c.read_name.ensures) in fact) ∙ not-true _ c.if-not-fits.true-raw in
+    rw c.reply-then-not-fits.ensures (join_not_in_form (book_of c.args.h c.args.opened.now c.args.ended.now) c.args.name.now c.args.cap.now ((let fact : shape (book_of c.args.h c.args.opened.now c.args.ended.now) ≡ true = sym c.is_sound.ensures ∙ not-false _ c.if-not-is_sound.false-raw in fact)) (rw e))
 
 pub apply-requires : goal.apply-requires
 apply-requires c =
-    let e = c in
-    let s = e in
-    let r = ap (λ (a : Amount). a.remainder) ((let fact : let s = c.args in (is_of amount_form s.cap.now ≡ true) × (amount_of (ten_thousandths s.cap.now) ≡ c.read.given.0.0) = let s = c in amount-value s.args.cap.now c.read.given.0.0 (sym c.read_amount-read.ensures ∙ c.read.given.1) in fact)).1 in
-    (sound_named ((let fact : Book = book_of s.args.h s.args.opened.now s.args.ended.now in fact)) ((let fact : Sound ((let fact : Book = book_of e.args.h e.args.opened.now e.args.ended.now in fact)) = let s = e in shape.sound ((let fact : Book = book_of s.args.h s.args.opened.now s.args.ended.now in fact)) ((let fact : length s.args.h.accounts ≡ 32 = search (rules, length_unmap) depth 8 in fact)) ((let fact : shape ((let fact : Book = book_of e.args.h e.args.opened.now e.args.ended.now in fact)) ≡ true = sym e.is_sound.ensures ∙ not-false _ e.if-not-is_sound.false in fact)) in fact)), omega (arith, r), name_short s.args.name.now ((let fact : is_of name_form e.args.name.now ≡ true = (let fact : is_of name_form e.args.name.now ≡ e.fits2.result = sym (e.fits2.ensures ∙ ap fits e.read_name.ensures) in fact) ∙ not-false _ e.if-not-fits.false in fact)))
+    let r = ap (λ (a : Amount). a.remainder) ((let fact : let s = c.args in (is_of amount_form s.cap.now ≡ true) × (amount_of (ten_thousandths s.cap.now) ≡ c.in-Value.a) = amount-value c.args.cap.now c.in-Value.a (sym c.read_amount-read.ensures ∙ c.in-Value.is) in fact)).1 in
+    (sound_named (book_of c.args.h c.args.opened.now c.args.ended.now) ((let fact : Sound (book_of c.args.h c.args.opened.now c.args.ended.now) = shape.sound (book_of c.args.h c.args.opened.now c.args.ended.now) ((let fact : length c.args.h.accounts ≡ 32 = search (rules, length_unmap) depth 8 in fact)) ((let fact : shape (book_of c.args.h c.args.opened.now c.args.ended.now) ≡ true = sym c.is_sound.ensures ∙ not-false _ c.if-not-is_sound.false-raw in fact)) in fact)), omega (arith, r), name_short c.args.name.now ((let fact : is_of name_form c.args.name.now ≡ true = (let fact : is_of name_form c.args.name.now ≡ c.fits.result = sym (c.fits.ensures ∙ ap fits c.read_name.ensures) in fact) ∙ not-false _ c.if-not-fits.false-raw in fact)))
 
 pub returns-in-Refused : goal.returns-in-Refused
 returns-in-Refused c =
-    let read = c in
-    let e = read in
-    let s = e in
-    let f = amount_refused s.args.cap.now _ (sym read.read_amount-read.ensures ∙ c.enum_told.given.1) in
+    let f = amount_refused c.args.cap.now _ (sym c.read_amount-read.ensures ∙ c.in-Refused.is) in
     rw c.reply-in-Refused.ensures
-    (join_not_in_form ((let fact : Book = book_of s.args.h s.args.opened.now s.args.ended.now in fact)) s.args.name.now s.args.cap.now ((let fact : shape ((let fact : Book = book_of e.args.h e.args.opened.now e.args.ended.now in fact)) ≡ true = sym e.is_sound.ensures ∙ not-false _ e.if-not-is_sound.false in fact))
-    (rw f (and-false (is_of name_form s.args.name.now))))
+    (join_not_in_form (book_of c.args.h c.args.opened.now c.args.ended.now) c.args.name.now c.args.cap.now ((let fact : shape (book_of c.args.h c.args.opened.now c.args.ended.now) ≡ true = sym c.is_sound.ensures ∙ not-false _ c.if-not-is_sound.false-raw in fact))
+    (rw f (and-false (is_of name_form c.args.name.now))))
 
 pub returns-in-Value : goal.returns-in-Value
 returns-in-Value c =
-    let read = c in
-    let e = read in
-    let s = e in
-    let v = (let fact : let s = read.args in (is_of amount_form s.cap.now ≡ true) × (amount_of (ten_thousandths s.cap.now) ≡ read.read.given.0.0) = let s = read in amount-value s.args.cap.now read.read.given.0.0 (sym read.read_amount-read.ensures ∙ read.read.given.1) in fact) in
-    let b = e in
+    let v = (let fact : let s = c.args in (is_of amount_form s.cap.now ≡ true) × (amount_of (ten_thousandths s.cap.now) ≡ c.in-Value.a) = amount-value c.args.cap.now c.in-Value.a (sym c.read_amount-read.ensures ∙ c.in-Value.is) in fact) in
     rw (c.apply.ensures, ← v.1)
-    (join_decided ((let fact : Book = book_of s.args.h s.args.opened.now s.args.ended.now in fact)) s.args.name.now s.args.cap.now ((let fact : shape ((let fact : Book = book_of b.args.h b.args.opened.now b.args.ended.now in fact)) ≡ true = sym b.is_sound.ensures ∙ not-false _ b.if-not-is_sound.false in fact)) ((let fact : is_of name_form e.args.name.now ≡ true = (let fact : is_of name_form e.args.name.now ≡ e.fits2.result = sym (e.fits2.ensures ∙ ap fits e.read_name.ensures) in fact) ∙ not-false _ e.if-not-fits.false in fact)) v.0
-    (length_accounts s.args.h ((let fact : length s.args.h.accounts ≡ 32 = search (rules, length_unmap) depth 8 in fact)) ((let fact : Sound ((let fact : Book = book_of b.args.h b.args.opened.now b.args.ended.now in fact)) = let s = b in shape.sound ((let fact : Book = book_of s.args.h s.args.opened.now s.args.ended.now in fact)) ((let fact : length s.args.h.accounts ≡ 32 = search (rules, length_unmap) depth 8 in fact)) ((let fact : shape ((let fact : Book = book_of b.args.h b.args.opened.now b.args.ended.now in fact)) ≡ true = sym b.is_sound.ensures ∙ not-false _ b.if-not-is_sound.false in fact)) in fact)).few))
+    (join_decided (book_of c.args.h c.args.opened.now c.args.ended.now) c.args.name.now c.args.cap.now ((let fact : shape (book_of c.args.h c.args.opened.now c.args.ended.now) ≡ true = sym c.is_sound.ensures ∙ not-false _ c.if-not-is_sound.false-raw in fact)) ((let fact : is_of name_form c.args.name.now ≡ true = (let fact : is_of name_form c.args.name.now ≡ c.fits.result = sym (c.fits.ensures ∙ ap fits c.read_name.ensures) in fact) ∙ not-false _ c.if-not-fits.false-raw in fact)) v.0
+    (length_accounts c.args.h ((let fact : length c.args.h.accounts ≡ 32 = search (rules, length_unmap) depth 8 in fact)) ((let fact : Sound (book_of c.args.h c.args.opened.now c.args.ended.now) = shape.sound (book_of c.args.h c.args.opened.now c.args.ended.now) ((let fact : length c.args.h.accounts ≡ 32 = search (rules, length_unmap) depth 8 in fact)) ((let fact : shape (book_of c.args.h c.args.opened.now c.args.ended.now) ≡ true = sym c.is_sound.ensures ∙ not-false _ c.if-not-is_sound.false-raw in fact)) in fact)).few))

@@ -8,5 +8,4 @@ use Rattle.join.proofs.padded.Goals as goal
 pub returns : goal.returns
 unfolding zeros
 returns c =
-    let s = c in
-    c.put.ensures ∙ name_stored s.args.name.now s.requires
+    c.put.ensures ∙ name_stored c.args.name.now c.requires

@@ -4,5 +4,4 @@ use Rattle.join.proofs.too_high.Goals as goal
 
 pub returns : goal.returns
 returns c =
-    let s = c in
-    cap_limit s.args.cap.units s.args.cap.remainder s.requires
+    cap_limit c.args.cap.units c.args.cap.remainder c.requires

@@ -10,6 +10,5 @@ use Rattle.join.proofs.with_account.Goals as goal
 pub returns : goal.returns
 unfolding with_account
 returns c =
-    let s = c in
-    let e : length s.args.name.now % 256 ≡ length s.args.name.now = omega (arith, s.requires) in
+    let e : length c.args.name.now % 256 ≡ length c.args.name.now = omega (arith, c.requires) in
     rw (c.padded-place.ensures, e)

@@ -6,4 +6,4 @@ use Rattle.lookup.proofs.on_record.Goals as goal
 pub returns : goal.returns
 returns c =
     let s = c.args in
-    rw (c.reply.ensures, c.number_of_lem.ensures, lent_row s.lent.now s.k)
+    rw (c.reply.ensures, c.number_of-mark.ensures, lent_row s.lent.now s.k)

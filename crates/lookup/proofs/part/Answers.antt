@@ -14,32 +14,30 @@ use borrow.Author.Rules.{rules}
 use Rattle.lookup.proofs.part.Goals as goal
 
 pub overflow_mul-at : goal.overflow_mul-at
-overflow_mul-at c = omega (arith, (let fact : c.found.given.0.0 * 160 + 160 ≤ length c.args.opened.now = let s = c in in_opened ((let fact : Book = book_of s.args.h s.args.opened.now s.args.ended.now in fact)) s.args.id.now ((let fact : length s.args.h.accounts ≡ 32 = search (rules, length_unmap) depth 8 in fact)) _ ((let fact : let s = c in lookup_place ((let fact : Book = book_of s.args.h s.args.opened.now s.args.ended.now in fact)) s.args.id.now ≡ Opened c.found.given.0.0 = sym c.place-found.ensures ∙ c.found.given.1 in fact)) in fact))
+overflow_mul-at c = omega (arith, (let fact : c.in-Opened.k * 160 + 160 ≤ length c.args.opened.now = in_opened (book_of c.args.h c.args.opened.now c.args.ended.now) c.args.id.now ((let fact : length c.args.h.accounts ≡ 32 = search (rules, length_unmap) depth 8 in fact)) _ ((let fact : lookup_place (book_of c.args.h c.args.opened.now c.args.ended.now) c.args.id.now ≡ Opened c.in-Opened.k = sym c.place-found.ensures ∙ c.in-Opened.is in fact)) in fact))
 
 pub overflow_add-end : goal.overflow_add-end
-overflow_add-end c = omega (arith, (let fact : c.found.given.0.0 * 160 + 160 ≤ length c.args.opened.now = let s = c in in_opened ((let fact : Book = book_of s.args.h s.args.opened.now s.args.ended.now in fact)) s.args.id.now ((let fact : length s.args.h.accounts ≡ 32 = search (rules, length_unmap) depth 8 in fact)) _ ((let fact : let s = c in lookup_place ((let fact : Book = book_of s.args.h s.args.opened.now s.args.ended.now in fact)) s.args.id.now ≡ Opened c.found.given.0.0 = sym c.place-found.ensures ∙ c.found.given.1 in fact)) in fact))
+overflow_add-end c = omega (arith, (let fact : c.in-Opened.k * 160 + 160 ≤ length c.args.opened.now = in_opened (book_of c.args.h c.args.opened.now c.args.ended.now) c.args.id.now ((let fact : length c.args.h.accounts ≡ 32 = search (rules, length_unmap) depth 8 in fact)) _ ((let fact : lookup_place (book_of c.args.h c.args.opened.now c.args.ended.now) c.args.id.now ≡ Opened c.in-Opened.k = sym c.place-found.ensures ∙ c.in-Opened.is in fact)) in fact))
 
 pub ??slice-bounds-result-end : goal.??Need-slice-bounds-result-end
-??slice-bounds-result-end c = (let fact : c.found.given.0.0 * 160 + 160 ≤ length c.args.opened.now = let s = c in in_opened ((let fact : Book = book_of s.args.h s.args.opened.now s.args.ended.now in fact)) s.args.id.now ((let fact : length s.args.h.accounts ≡ 32 = search (rules, length_unmap) depth 8 in fact)) _ ((let fact : let s = c in lookup_place ((let fact : Book = book_of s.args.h s.args.opened.now s.args.ended.now in fact)) s.args.id.now ≡ Opened c.found.given.0.0 = sym c.place-found.ensures ∙ c.found.given.1 in fact)) in fact)
+??slice-bounds-result-end c = (let fact : c.in-Opened.k * 160 + 160 ≤ length c.args.opened.now = in_opened (book_of c.args.h c.args.opened.now c.args.ended.now) c.args.id.now ((let fact : length c.args.h.accounts ≡ 32 = search (rules, length_unmap) depth 8 in fact)) _ ((let fact : lookup_place (book_of c.args.h c.args.opened.now c.args.ended.now) c.args.id.now ≡ Opened c.in-Opened.k = sym c.place-found.ensures ∙ c.in-Opened.is in fact)) in fact)
 
 pub overflow_mul-at-in-Ended : goal.overflow_mul-at-in-Ended
-overflow_mul-at-in-Ended c = omega (arith, (let fact : c.found-in-Ended-1.given.0.0 * 160 + 160 ≤ length c.args.ended.now = let s = c in in_finished ((let fact : Book = book_of s.args.h s.args.opened.now s.args.ended.now in fact)) s.args.id.now ((let fact : length s.args.h.accounts ≡ 32 = search (rules, length_unmap) depth 8 in fact)) _ ((let fact : let s = c in lookup_place ((let fact : Book = book_of s.args.h s.args.opened.now s.args.ended.now in fact)) s.args.id.now ≡ Ended c.found-in-Ended-1.given.0.0 = sym c.place-found.ensures ∙ c.found-in-Ended-1.given.1 in fact)) in fact))
+overflow_mul-at-in-Ended c = omega (arith, (let fact : c.in-Ended.k * 160 + 160 ≤ length c.args.ended.now = in_finished (book_of c.args.h c.args.opened.now c.args.ended.now) c.args.id.now ((let fact : length c.args.h.accounts ≡ 32 = search (rules, length_unmap) depth 8 in fact)) _ ((let fact : lookup_place (book_of c.args.h c.args.opened.now c.args.ended.now) c.args.id.now ≡ Ended c.in-Ended.k = sym c.place-found.ensures ∙ c.in-Ended.is in fact)) in fact))
 
 pub overflow_add-end-in-Ended : goal.overflow_add-end-in-Ended
-overflow_add-end-in-Ended c = omega (arith, (let fact : c.found-in-Ended-1.given.0.0 * 160 + 160 ≤ length c.args.ended.now = let s = c in in_finished ((let fact : Book = book_of s.args.h s.args.opened.now s.args.ended.now in fact)) s.args.id.now ((let fact : length s.args.h.accounts ≡ 32 = search (rules, length_unmap) depth 8 in fact)) _ ((let fact : let s = c in lookup_place ((let fact : Book = book_of s.args.h s.args.opened.now s.args.ended.now in fact)) s.args.id.now ≡ Ended c.found-in-Ended-1.given.0.0 = sym c.place-found.ensures ∙ c.found-in-Ended-1.given.1 in fact)) in fact))
+overflow_add-end-in-Ended c = omega (arith, (let fact : c.in-Ended.k * 160 + 160 ≤ length c.args.ended.now = in_finished (book_of c.args.h c.args.opened.now c.args.ended.now) c.args.id.now ((let fact : length c.args.h.accounts ≡ 32 = search (rules, length_unmap) depth 8 in fact)) _ ((let fact : lookup_place (book_of c.args.h c.args.opened.now c.args.ended.now) c.args.id.now ≡ Ended c.in-Ended.k = sym c.place-found.ensures ∙ c.in-Ended.is in fact)) in fact))
 
 pub ??slice-bounds-result-end-2 : goal.??Need-slice-bounds-result-end-2
-??slice-bounds-result-end-2 c = (let fact : c.found-in-Ended-1.given.0.0 * 160 + 160 ≤ length c.args.ended.now = let s = c in in_finished ((let fact : Book = book_of s.args.h s.args.opened.now s.args.ended.now in fact)) s.args.id.now ((let fact : length s.args.h.accounts ≡ 32 = search (rules, length_unmap) depth 8 in fact)) _ ((let fact : let s = c in lookup_place ((let fact : Book = book_of s.args.h s.args.opened.now s.args.ended.now in fact)) s.args.id.now ≡ Ended c.found-in-Ended-1.given.0.0 = sym c.place-found.ensures ∙ c.found-in-Ended-1.given.1 in fact)) in fact)
+??slice-bounds-result-end-2 c = (let fact : c.in-Ended.k * 160 + 160 ≤ length c.args.ended.now = in_finished (book_of c.args.h c.args.opened.now c.args.ended.now) c.args.id.now ((let fact : length c.args.h.accounts ≡ 32 = search (rules, length_unmap) depth 8 in fact)) _ ((let fact : lookup_place (book_of c.args.h c.args.opened.now c.args.ended.now) c.args.id.now ≡ Ended c.in-Ended.k = sym c.place-found.ensures ∙ c.in-Ended.is in fact)) in fact)
 
 pub returns-in-Opened : goal.returns-in-Opened
 returns-in-Opened c =
-    let f = c in
-    rw ((let fact : let s = f in lookup_place ((let fact : Book = book_of s.args.h s.args.opened.now s.args.ended.now in fact)) s.args.id.now ≡ Opened f.found.given.0.0 = sym f.place-found.ensures ∙ f.found.given.1 in fact), lent_row f.args.opened.now f.found.given.0.0)
+    rw ((let fact : lookup_place (book_of c.args.h c.args.opened.now c.args.ended.now) c.args.id.now ≡ Opened c.in-Opened.k = sym c.place-found.ensures ∙ c.in-Opened.is in fact), lent_row c.args.opened.now c.in-Opened.k)
 
 pub returns-in-Ended : goal.returns-in-Ended
 returns-in-Ended c =
-    let f = c in
-    rw ((let fact : let s = f in lookup_place ((let fact : Book = book_of s.args.h s.args.opened.now s.args.ended.now in fact)) s.args.id.now ≡ Ended f.found-in-Ended-1.given.0.0 = sym f.place-found.ensures ∙ f.found-in-Ended-1.given.1 in fact), lent_row f.args.ended.now f.found-in-Ended-1.given.0.0)
+    rw ((let fact : lookup_place (book_of c.args.h c.args.opened.now c.args.ended.now) c.args.id.now ≡ Ended c.in-Ended.k = sym c.place-found.ensures ∙ c.in-Ended.is in fact), lent_row c.args.ended.now c.in-Ended.k)
 
 pub returns-in-Nowhere : goal.returns-in-Nowhere
-returns-in-Nowhere c = rw (← c.place-found.ensures, c.enum_told.given.1)
+returns-in-Nowhere c = rw (← c.place-found.ensures, c.in-Nowhere.is)

@@ -16,15 +16,14 @@ lent c = let s = c.args in book_of s.h s.opened.now s.ended.now
 
 -- the lengths are right
 right : (c : goal.Else-not-lengths) → lengths_ok (lent c) ≡ true
-right c = rw (← c.length_ok.ensures, ← c.length_ok-2.ensures) (not-false _ c.if-not-lengths.false)
+right c = rw (← c.length_ok.ensures, ← c.length_ok-2.ensures) (not-false _ c.if-not-lengths.false-raw)
 
 pub returns-then-not-lengths : goal.returns-then-not-lengths
 returns-then-not-lengths c =
     let s = c.args in
-    let l = c in
     rw c.reply.ensures
     (not-started (book_of s.h s.opened.now s.ended.now) s.currency.now s.time
-    (rw (← l.length_ok.ensures, ← l.length_ok-2.ensures) (not-true _ c.if-not-lengths.true)))
+    (rw (← c.length_ok.ensures, ← c.length_ok-2.ensures) (not-true _ c.if-not-lengths.true-raw)))
 
 pub overflow_cast-slots : goal.overflow_cast-slots
 overflow_cast-slots c = record { fits = omega (arith, few_records (lent c) (right c)) }
@@ -34,17 +33,12 @@ overflow_cast-places c = record { fits = omega (arith, few_records (lent c) (rig
 
 pub returns : goal.returns
 returns c =
-    let made = c in
-    let cleared = made in
-    let first = cleared in
-    let else = first in
-    let s = else in
     rw (
       c.reply-2.ensures,
-      made.fresh-next.ensures,
-      made.letters.ensures,
-      cleared.clear-2.ensures,
-      first.clear.ensures,
-      to_z-of_z s.ranges.time,
+      c.fresh-next.ensures,
+      c.letters.ensures,
+      c.clear-2.ensures,
+      c.clear.ensures,
+      to_z-of_z c.ranges.time,
     )
-    (now_started ((let fact : Book = let s = else.args in book_of s.h s.opened.now s.ended.now in fact)) s.args.currency.now s.args.time ((let fact : lengths_ok ((let fact : Book = let s = else.args in book_of s.h s.opened.now s.ended.now in fact)) ≡ true = rw (← else.length_ok.ensures, ← else.length_ok-2.ensures) (not-false _ else.if-not-lengths.false) in fact)))
+    (now_started (let s = c.args in book_of s.h s.opened.now s.ended.now) c.args.currency.now c.args.time ((let fact : lengths_ok (let s = c.args in book_of s.h s.opened.now s.ended.now) ≡ true = rw (← c.length_ok.ensures, ← c.length_ok-2.ensures) (not-false _ c.if-not-lengths.false-raw) in fact)))

@@ -15,69 +15,64 @@ use Rattle.prepare.proofs.decide_id.Goals as goal
 
 pub find-place-requires : goal.find-place-requires
 find-place-requires c =
-    let s = c in
-    in_books ((let fact : Book = book_of s.args.h s.args.opened.now s.args.ended.now in fact)) s.requires.sound
+    in_books (book_of c.args.h c.args.opened.now c.args.ended.now) c.requires.sound
 
 pub overflow_mul-k : goal.overflow_mul-k
-overflow_mul-k c = record { fits = omega (arith, (let fact : c.place.given.0.0 * 160 + 160 ≤ length (c).args.opened.now = let s = c in opened_inside ((let fact : Book = book_of s.args.h s.args.opened.now s.args.ended.now in fact)) s.pre.sound s.args.c.id _ ((let fact : let s = c in where_is ((let fact : Book = book_of s.args.h s.args.opened.now s.args.ended.now in fact)) s.args.c.id ≡ Opened c.place.given.0.0 = sym c.find-place.ensures ∙ c.place.given.1 in fact)) in fact)) }
+overflow_mul-k c = record { fits = omega (arith, (let fact : c.in-Opened.k * 160 + 160 ≤ length c.args.opened.now = let s = c in opened_inside (book_of s.args.h s.args.opened.now s.args.ended.now) s.pre.sound s.args.c.id _ ((let fact : let s = c in where_is (book_of s.args.h s.args.opened.now s.args.ended.now) s.args.c.id ≡ Opened c.in-Opened.k = sym c.find-place.ensures ∙ c.in-Opened.is in fact)) in fact)) }
 
 pub overflow_mul-k-in-Opened : goal.overflow_mul-k-in-Opened
-overflow_mul-k-in-Opened c = record { fits = omega (arith, (let fact : c.place.given.0.0 * 160 + 160 ≤ length (c).args.opened.now = let s = c in opened_inside ((let fact : Book = book_of s.args.h s.args.opened.now s.args.ended.now in fact)) s.pre.sound s.args.c.id _ ((let fact : let s = c in where_is ((let fact : Book = book_of s.args.h s.args.opened.now s.args.ended.now in fact)) s.args.c.id ≡ Opened c.place.given.0.0 = sym c.find-place.ensures ∙ c.place.given.1 in fact)) in fact)) }
+overflow_mul-k-in-Opened c = record { fits = omega (arith, (let fact : c.in-Opened.k * 160 + 160 ≤ length c.args.opened.now = let s = c in opened_inside (book_of s.args.h s.args.opened.now s.args.ended.now) s.pre.sound s.args.c.id _ ((let fact : let s = c in where_is (book_of s.args.h s.args.opened.now s.args.ended.now) s.args.c.id ≡ Opened c.in-Opened.k = sym c.find-place.ensures ∙ c.in-Opened.is in fact)) in fact)) }
 
 pub overflow_add-k : goal.overflow_add-k
-overflow_add-k c = record { fits = omega (arith, (let fact : c.place.given.0.0 * 160 + 160 ≤ length (c).args.opened.now = let s = c in opened_inside ((let fact : Book = book_of s.args.h s.args.opened.now s.args.ended.now in fact)) s.pre.sound s.args.c.id _ ((let fact : let s = c in where_is ((let fact : Book = book_of s.args.h s.args.opened.now s.args.ended.now in fact)) s.args.c.id ≡ Opened c.place.given.0.0 = sym c.find-place.ensures ∙ c.place.given.1 in fact)) in fact)) }
+overflow_add-k c = record { fits = omega (arith, (let fact : c.in-Opened.k * 160 + 160 ≤ length c.args.opened.now = let s = c in opened_inside (book_of s.args.h s.args.opened.now s.args.ended.now) s.pre.sound s.args.c.id _ ((let fact : let s = c in where_is (book_of s.args.h s.args.opened.now s.args.ended.now) s.args.c.id ≡ Opened c.in-Opened.k = sym c.find-place.ensures ∙ c.in-Opened.is in fact)) in fact)) }
 
 pub ??slice-bounds-on-record-end : goal.??Need-slice-bounds-on-record-end
-??slice-bounds-on-record-end c = omega (arith, (let fact : c.place.given.0.0 * 160 + 160 ≤ length (c).args.opened.now = let s = c in opened_inside ((let fact : Book = book_of s.args.h s.args.opened.now s.args.ended.now in fact)) s.pre.sound s.args.c.id _ ((let fact : let s = c in where_is ((let fact : Book = book_of s.args.h s.args.opened.now s.args.ended.now in fact)) s.args.c.id ≡ Opened c.place.given.0.0 = sym c.find-place.ensures ∙ c.place.given.1 in fact)) in fact))
+??slice-bounds-on-record-end c = omega (arith, (let fact : c.in-Opened.k * 160 + 160 ≤ length c.args.opened.now = let s = c in opened_inside (book_of s.args.h s.args.opened.now s.args.ended.now) s.pre.sound s.args.c.id _ ((let fact : let s = c in where_is (book_of s.args.h s.args.opened.now s.args.ended.now) s.args.c.id ≡ Opened c.in-Opened.k = sym c.find-place.ensures ∙ c.in-Opened.is in fact)) in fact))
 
 pub on_record-requires : goal.on_record-requires
 on_record-requires c =
-    let found = c in
-    let s = found in
-    rw (lent_row s.args.opened.now found.place.given.0.0)
-    (opened_comparable ((let fact : Book = book_of s.args.h s.args.opened.now s.args.ended.now in fact)) s.pre.sound s.args.c.id _ s.args.c s.pre.amount ((let fact : let s = found in where_is ((let fact : Book = book_of s.args.h s.args.opened.now s.args.ended.now in fact)) s.args.c.id ≡ Opened found.place.given.0.0 = sym found.find-place.ensures ∙ found.place.given.1 in fact)))
+    let s = c in
+    rw (lent_row s.args.opened.now c.in-Opened.k)
+    (opened_comparable (book_of s.args.h s.args.opened.now s.args.ended.now) s.pre.sound s.args.c.id _ s.args.c s.pre.amount ((let fact : let s = c in where_is (book_of s.args.h s.args.opened.now s.args.ended.now) s.args.c.id ≡ Opened c.in-Opened.k = sym c.find-place.ensures ∙ c.in-Opened.is in fact)))
 
 pub overflow_mul-k-in-Ended : goal.overflow_mul-k-in-Ended
-overflow_mul-k-in-Ended c = record { fits = omega (arith, (let fact : c.place-in-Ended-1.given.0.0 * 160 + 160 ≤ length (c).args.ended.now = let s = c in ended-inside ((let fact : Book = book_of s.args.h s.args.opened.now s.args.ended.now in fact)) s.pre.sound s.args.c.id _ ((let fact : let s = c in where_is ((let fact : Book = book_of s.args.h s.args.opened.now s.args.ended.now in fact)) s.args.c.id ≡ Ended c.place-in-Ended-1.given.0.0 = sym c.find-place.ensures ∙ c.place-in-Ended-1.given.1 in fact)) in fact)) }
+overflow_mul-k-in-Ended c = record { fits = omega (arith, (let fact : c.in-Ended.k * 160 + 160 ≤ length c.args.ended.now = let s = c in ended-inside (book_of s.args.h s.args.opened.now s.args.ended.now) s.pre.sound s.args.c.id _ ((let fact : let s = c in where_is (book_of s.args.h s.args.opened.now s.args.ended.now) s.args.c.id ≡ Ended c.in-Ended.k = sym c.find-place.ensures ∙ c.in-Ended.is in fact)) in fact)) }
 
 pub overflow_mul-k-in-Ended-2 : goal.overflow_mul-k-in-Ended-2
-overflow_mul-k-in-Ended-2 c = record { fits = omega (arith, (let fact : c.place-in-Ended-1.given.0.0 * 160 + 160 ≤ length (c).args.ended.now = let s = c in ended-inside ((let fact : Book = book_of s.args.h s.args.opened.now s.args.ended.now in fact)) s.pre.sound s.args.c.id _ ((let fact : let s = c in where_is ((let fact : Book = book_of s.args.h s.args.opened.now s.args.ended.now in fact)) s.args.c.id ≡ Ended c.place-in-Ended-1.given.0.0 = sym c.find-place.ensures ∙ c.place-in-Ended-1.given.1 in fact)) in fact)) }
+overflow_mul-k-in-Ended-2 c = record { fits = omega (arith, (let fact : c.in-Ended.k * 160 + 160 ≤ length c.args.ended.now = let s = c in ended-inside (book_of s.args.h s.args.opened.now s.args.ended.now) s.pre.sound s.args.c.id _ ((let fact : let s = c in where_is (book_of s.args.h s.args.opened.now s.args.ended.now) s.args.c.id ≡ Ended c.in-Ended.k = sym c.find-place.ensures ∙ c.in-Ended.is in fact)) in fact)) }
 
 pub overflow_add-k-in-Ended : goal.overflow_add-k-in-Ended
-overflow_add-k-in-Ended c = record { fits = omega (arith, (let fact : c.place-in-Ended-1.given.0.0 * 160 + 160 ≤ length (c).args.ended.now = let s = c in ended-inside ((let fact : Book = book_of s.args.h s.args.opened.now s.args.ended.now in fact)) s.pre.sound s.args.c.id _ ((let fact : let s = c in where_is ((let fact : Book = book_of s.args.h s.args.opened.now s.args.ended.now in fact)) s.args.c.id ≡ Ended c.place-in-Ended-1.given.0.0 = sym c.find-place.ensures ∙ c.place-in-Ended-1.given.1 in fact)) in fact)) }
+overflow_add-k-in-Ended c = record { fits = omega (arith, (let fact : c.in-Ended.k * 160 + 160 ≤ length c.args.ended.now = let s = c in ended-inside (book_of s.args.h s.args.opened.now s.args.ended.now) s.pre.sound s.args.c.id _ ((let fact : let s = c in where_is (book_of s.args.h s.args.opened.now s.args.ended.now) s.args.c.id ≡ Ended c.in-Ended.k = sym c.find-place.ensures ∙ c.in-Ended.is in fact)) in fact)) }
 
 pub ??slice-bounds-on-record-end-2 : goal.??Need-slice-bounds-on-record-end-2
-??slice-bounds-on-record-end-2 c = omega (arith, (let fact : c.place-in-Ended-1.given.0.0 * 160 + 160 ≤ length (c).args.ended.now = let s = c in ended-inside ((let fact : Book = book_of s.args.h s.args.opened.now s.args.ended.now in fact)) s.pre.sound s.args.c.id _ ((let fact : let s = c in where_is ((let fact : Book = book_of s.args.h s.args.opened.now s.args.ended.now in fact)) s.args.c.id ≡ Ended c.place-in-Ended-1.given.0.0 = sym c.find-place.ensures ∙ c.place-in-Ended-1.given.1 in fact)) in fact))
+??slice-bounds-on-record-end-2 c = omega (arith, (let fact : c.in-Ended.k * 160 + 160 ≤ length c.args.ended.now = let s = c in ended-inside (book_of s.args.h s.args.opened.now s.args.ended.now) s.pre.sound s.args.c.id _ ((let fact : let s = c in where_is (book_of s.args.h s.args.opened.now s.args.ended.now) s.args.c.id ≡ Ended c.in-Ended.k = sym c.find-place.ensures ∙ c.in-Ended.is in fact)) in fact))
 
 pub on_record-requires-in-Ended : goal.on_record-requires-in-Ended
 on_record-requires-in-Ended c =
-    let found = c in
-    let s = found in
-    rw (lent_row s.args.ended.now found.place-in-Ended-1.given.0.0)
-    (ended_comparable ((let fact : Book = book_of s.args.h s.args.opened.now s.args.ended.now in fact)) s.pre.sound s.args.c.id _ s.args.c s.pre.amount ((let fact : let s = found in where_is ((let fact : Book = book_of s.args.h s.args.opened.now s.args.ended.now in fact)) s.args.c.id ≡ Ended found.place-in-Ended-1.given.0.0 = sym found.find-place.ensures ∙ found.place-in-Ended-1.given.1 in fact)))
+    let s = c in
+    rw (lent_row s.args.ended.now c.in-Ended.k)
+    (ended_comparable (book_of s.args.h s.args.opened.now s.args.ended.now) s.pre.sound s.args.c.id _ s.args.c s.pre.amount ((let fact : let s = c in where_is (book_of s.args.h s.args.opened.now s.args.ended.now) s.args.c.id ≡ Ended c.in-Ended.k = sym c.find-place.ensures ∙ c.in-Ended.is in fact)))
 
 pub on_none-requires : goal.on_none-requires
 on_none-requires c =
     let s = c in (
-      (in_books ((let fact : Book = book_of s.args.h s.args.opened.now s.args.ended.now in fact)) s.pre.sound).slots,
-      λ e. rises ((let fact : Book = book_of s.args.h s.args.opened.now s.args.ended.now in fact)) s.pre.sound s.args.p s.args.c.amount (s.pre.payer e) s.pre.amount,
+      (in_books (book_of s.args.h s.args.opened.now s.args.ended.now) s.pre.sound).slots,
+      λ e. rises (book_of s.args.h s.args.opened.now s.args.ended.now) s.pre.sound s.args.p s.args.c.amount (s.pre.payer e) s.pre.amount,
     )
 
 pub returns-in-Opened : goal.returns-in-Opened
 returns-in-Opened c =
-    let found = c in
-    let s = found in
+    let s = c in
     c.on_record.ensures
-    ∙ rw (lent_row s.args.opened.now found.place.given.0.0, held_at ((let fact : Book = book_of s.args.h s.args.opened.now s.args.ended.now in fact)) s.args.c.id, (let fact : let s = found in where_is ((let fact : Book = book_of s.args.h s.args.opened.now s.args.ended.now in fact)) s.args.c.id ≡ Opened found.place.given.0.0 = sym found.find-place.ensures ∙ found.place.given.1 in fact))
+    ∙ rw (lent_row s.args.opened.now c.in-Opened.k, held_at (book_of s.args.h s.args.opened.now s.args.ended.now) s.args.c.id, (let fact : let s = c in where_is (book_of s.args.h s.args.opened.now s.args.ended.now) s.args.c.id ≡ Opened c.in-Opened.k = sym c.find-place.ensures ∙ c.in-Opened.is in fact))
 
 pub returns-in-Ended : goal.returns-in-Ended
 returns-in-Ended c =
-    let found = c in
-    let s = found in
+    let s = c in
     c.on_record-in-Ended.ensures
-    ∙ rw (lent_row s.args.ended.now found.place-in-Ended-1.given.0.0, held_at ((let fact : Book = book_of s.args.h s.args.opened.now s.args.ended.now in fact)) s.args.c.id, (let fact : let s = found in where_is ((let fact : Book = book_of s.args.h s.args.opened.now s.args.ended.now in fact)) s.args.c.id ≡ Ended found.place-in-Ended-1.given.0.0 = sym found.find-place.ensures ∙ found.place-in-Ended-1.given.1 in fact))
+    ∙ rw (lent_row s.args.ended.now c.in-Ended.k, held_at (book_of s.args.h s.args.opened.now s.args.ended.now) s.args.c.id, (let fact : let s = c in where_is (book_of s.args.h s.args.opened.now s.args.ended.now) s.args.c.id ≡ Ended c.in-Ended.k = sym c.find-place.ensures ∙ c.in-Ended.is in fact))
 
 pub returns-in-Nowhere : goal.returns-in-Nowhere
 returns-in-Nowhere c =
     let s = c in
-    c.on_none.ensures ∙ rw (held_at ((let fact : Book = book_of s.args.h s.args.opened.now s.args.ended.now in fact)) s.args.c.id, (let fact : let s = c in where_is ((let fact : Book = book_of s.args.h s.args.opened.now s.args.ended.now in fact)) s.args.c.id ≡ Nowhere = sym c.find-place.ensures ∙ c.enum_told.given.1 in fact))
+    c.on_none.ensures ∙ rw (held_at (book_of s.args.h s.args.opened.now s.args.ended.now) s.args.c.id, (let fact : let s = c in where_is (book_of s.args.h s.args.opened.now s.args.ended.now) s.args.c.id ≡ Nowhere = sym c.find-place.ensures ∙ c.in-Nowhere.is in fact))

@@ -12,27 +12,22 @@ returns-then-q-count c = rw (ne_eqb _ _ c.if-p-count.false, eq-eqb _ _ c.if-q-co
 
 pub returns-then-same : goal.returns-then-same
 returns-then-same c =
-    let second = c in
-    rw (ne_eqb _ _ second.if-p-count.false, ne_eqb _ _ second.if-q-count.false, sym c.same.ensures ∙ c.if-same.true)
+    rw (ne_eqb _ _ c.if-p-count.false, ne_eqb _ _ c.if-q-count.false, sym c.same.ensures ∙ c.if-same.true)
 
 pub returns-then-not-same : goal.returns-then-not-same
 returns-then-not-same c =
-    let third = c in
-    let second = third in
     rw (
-      ne_eqb _ _ second.if-p-count.false,
-      ne_eqb _ _ second.if-q-count.false,
-      sym third.same.ensures ∙ third.if-same.false,
-      sym c.same-2.ensures ∙ not-true _ c.if-not-same.true,
+      ne_eqb _ _ c.if-p-count.false,
+      ne_eqb _ _ c.if-q-count.false,
+      sym c.same.ensures ∙ c.if-same.false,
+      sym c.same-2.ensures ∙ not-true _ c.if-not-same.true-raw,
     )
 
 pub returns : goal.returns
 returns c =
-    let third = c in
-    let second = third in
     rw (
-      ne_eqb _ _ second.if-p-count.false,
-      ne_eqb _ _ second.if-q-count.false,
-      sym third.same.ensures ∙ third.if-same.false,
-      sym c.same-2.ensures ∙ not-false _ c.if-not-same.false,
+      ne_eqb _ _ c.if-p-count.false,
+      ne_eqb _ _ c.if-q-count.false,
+      sym c.same.ensures ∙ c.if-same.false,
+      sym c.same-2.ensures ∙ not-false _ c.if-not-same.false-raw,
     )

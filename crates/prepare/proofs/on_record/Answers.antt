@@ -5,18 +5,16 @@ use Rattle.prepare.proofs.on_record.Goals as goal
 
 pub returns-then-is_done : goal.returns-then-is_done
 returns-then-is_done c =
-    let same = c in
-    let done = sym same.is_done.ensures ∙ same.if-is_done.true in
+    let done = sym c.is_done.ensures ∙ c.if-is_done.true in
     rw (
       c.decided.ensures,
       c.resend.ensures,
-      same.same_content-same.ensures,
-      same.number_of_lem.ensures,
+      c.same_content-same.ensures,
+      c.number_of-number.ensures,
       done,
     )
 
 pub returns : goal.returns
 returns c =
-    let done = c in
-    let refused = sym done.is_done.ensures ∙ c.if-is_done.false in
-    rw (c.decided-2.ensures, done.number_of_lem.ensures, refused)
+    let refused = sym c.is_done.ensures ∙ c.if-is_done.false in
+    rw (c.decided-2.ensures, c.number_of-number.ensures, refused)

@@ -9,11 +9,10 @@ use Rattle.prepare.proofs.passes_cap.Goals as goal
 
 pub at_most-requires : goal.at_most-requires
 at_most-requires c =
-    let a = c in
-    (rw c.raise.ensures (held_remainder _), a.requires.cap)
+    (rw c.raise.ensures (held_remainder _), c.requires.cap)
 
 pub returns : goal.returns
 returns c =
     let a = c.args in
-    let h = account_at a.t1 a.payer in
+    let h = account_at a.h a.payer in
     ap not c.at_most.ensures ∙ rw c.raise.ensures (above_cap h.position a.c.amount h.cap)

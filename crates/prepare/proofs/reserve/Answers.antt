@@ -13,20 +13,16 @@ use Rattle.prepare.proofs.reserve.Goals as goal
 
 pub write_new-requires : goal.write_new-requires
 write_new-requires c =
-    let s = c in
-    lent_row s.args.opened.now s.args.slot ∙ s.requires.free
+    lent_row c.args.opened.now c.args.slot ∙ c.requires.free
 
 pub returns : goal.returns
 unfolding raised
 returns c =
-    let write = c in
-    let next = write in
-    let s = next in
-    let payer : s.args.p % 256 ≡ s.args.p = omega (arith, s.requires.rises.account) in
-    let payee : s.args.q % 256 ≡ s.args.q = omega (arith, s.requires.payee) in
-    let written : write.write_new.new.0 ≡ new_row s.args.c s.args.p s.args.q s.args.number =
-    write.write_new.ensures ∙ rw (payer, payee) in (
-      rw (c.reply.ensures, next.with_position-next.ensures, next.raise-position.ensures),
-      row_home s.args.opened.now write.write_new.new.0 s.args.slot s.requires.inside (ap length written ∙ length-new _ _ _ _)
-          ∙ ap (sets s.args.opened.now (s.args.slot * 160)) written,
+    let payer : c.args.p % 256 ≡ c.args.p = omega (arith, c.requires.rises.account) in
+    let payee : c.args.q % 256 ≡ c.args.q = omega (arith, c.requires.payee) in
+    let written : c.write_new.new.part ≡ new_row c.args.c c.args.p c.args.q c.args.number =
+    c.write_new.ensures ∙ rw (payer, payee) in (
+      rw (c.reply.ensures, c.with_position-next.ensures, c.raise-position.ensures),
+      row_home c.args.opened.now c.write_new.new.part c.args.slot c.requires.inside (ap length written ∙ length-new _ _ _ _)
+          ∙ ap (sets c.args.opened.now (c.args.slot * 160)) written,
     )

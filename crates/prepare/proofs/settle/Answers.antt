@@ -19,13 +19,11 @@ start c = c
 
 pub place_of-p-requires : goal.place_of-p-requires
 place_of-p-requires c =
-    let s = c in
-    sound_named ((let fact : Book = book_of s.args.h s.args.opened.now s.args.ended.now in fact)) s.requires.0
+    sound_named (book_of c.args.h c.args.opened.now c.args.ended.now) c.requires.0
 
 pub place_of-q-requires : goal.place_of-q-requires
 place_of-q-requires c =
-    let s = c in
-    sound_named ((let fact : Book = book_of s.args.h s.args.opened.now s.args.ended.now in fact)) s.requires.0
+    sound_named (book_of c.args.h c.args.opened.now c.args.ended.now) c.requires.0
 
 -- what was answered on the parties, and what was decided, by their account numbers
 parties : (c : goal.After-decide_parties-parties) → let a = (start c).args in
@@ -38,58 +36,50 @@ parties c =
     c.place_of-q.ensures
 
 decided : (c : goal.After-decide_id-d) → let s = c in let a = s.args in
-    c.decide_id-d.result ≡ on_id ((let fact : Book = book_of s.args.h s.args.opened.now s.args.ended.now in fact)) a.payer.now a.payee.now a.c (place_of a.h a.payer.now)
+    c.decide_id-d.result ≡ on_id (book_of s.args.h s.args.opened.now s.args.ended.now) a.payer.now a.payee.now a.c (place_of a.h a.payer.now)
     (party_rules a.h a.payer.now a.payee.now a.currency.now (place_of a.h a.payer.now) (place_of a.h a.payee.now))
-    (held_row ((let fact : Book = book_of s.args.h s.args.opened.now s.args.ended.now in fact)) a.c.id)
+    (held_row (book_of s.args.h s.args.opened.now s.args.ended.now) a.c.id)
 decided c =
-    let p = c in
-    let s = p in
+    let s = c in
     let a = s.args in
     c.decide_id-d.ensures
-    ∙ ap₂ (λ (n : ℕ) (x : Answer). on_id ((let fact : Book = book_of s.args.h s.args.opened.now s.args.ended.now in fact)) a.payer.now a.payee.now a.c n x (held_row ((let fact : Book = book_of s.args.h s.args.opened.now s.args.ended.now in fact)) a.c.id))
-    p.place_of-p.ensures ((let fact : let a = (p).args in p.decide_parties-parties.result ≡ party_rules a.h a.payer.now a.payee.now a.currency.now (place_of a.h a.payer.now) (place_of a.h a.payee.now) = let a = (p).args in p.decide_parties-parties.ensures ∙ ap₂ (party_rules a.h a.payer.now a.payee.now a.currency.now) p.place_of-p.ensures p.place_of-q.ensures in fact))
+    ∙ ap₂ (λ (n : ℕ) (x : Answer). on_id (book_of s.args.h s.args.opened.now s.args.ended.now) a.payer.now a.payee.now a.c n x (held_row (book_of s.args.h s.args.opened.now s.args.ended.now) a.c.id))
+    c.place_of-p.ensures ((let fact : let a = c.args in c.decide_parties-parties.result ≡ party_rules a.h a.payer.now a.payee.now a.currency.now (place_of a.h a.payer.now) (place_of a.h a.payee.now) = let a = c.args in c.decide_parties-parties.ensures ∙ ap₂ (party_rules a.h a.payer.now a.payee.now a.currency.now) c.place_of-p.ensures c.place_of-q.ensures in fact))
 
 pub decide_id-d-requires : goal.decide_id-d-requires
 decide_id-d-requires c =
-    let p = c in
-    let s = start p in
+    let s = start c in
     let a = s.args in
     record {
       sound = s.pre.0;
       amount = s.pre.1;
       payer = λ e.
-          rw p.place_of-p.ensures
-          (parties-found ((let fact : Book = book_of s.args.h s.args.opened.now s.args.ended.now in fact)) s.pre.0 ((let fact : length s.args.h.accounts ≡ 32 = simp length-map at s.well-formed.0.1.1.0.1.0.1 in fact)) a.payer.now a.payee.now a.currency.now a.c
-          (ap is_done (sym (parties p)) ∙ e)).0;
+          rw c.place_of-p.ensures
+          (parties-found (book_of s.args.h s.args.opened.now s.args.ended.now) s.pre.0 (let fact : length s.args.h.accounts ≡ 32 = simp length-map at s.well_formed.0.1.1.0.1.0.1 in fact) a.payer.now a.payee.now a.currency.now a.c
+          (ap is_done (sym (parties c)) ∙ e)).0;
     }
 
 pub reserve-requires : goal.reserve-requires
 reserve-requires c =
-    let d = c in
-    let p = d in
-    let s = p in
+    let s = c in
     let a = s.args in
-    rw (p.place_of-p.ensures, p.place_of-q.ensures)
-    (can_reserve ((let fact : Book = book_of s.args.h s.args.opened.now s.args.ended.now in fact)) s.pre.0 ((let fact : length s.args.h.accounts ≡ 32 = simp length-map at s.well-formed.0.1.1.0.1.0.1 in fact)) a.payer.now a.payee.now a.currency.now a.c s.pre.1
-    d.decide_id-d.result ((let fact : let s = d in let a = s.args in d.decide_id-d.result ≡ on_id ((let fact : Book = book_of s.args.h s.args.opened.now s.args.ended.now in fact)) a.payer.now a.payee.now a.c (place_of a.h a.payer.now) (party_rules a.h a.payer.now a.payee.now a.currency.now (place_of a.h a.payer.now) (place_of a.h a.payee.now)) (held_row ((let fact : Book = book_of s.args.h s.args.opened.now s.args.ended.now in fact)) a.c.id) = let p = d in let s = p in let a = s.args in d.decide_id-d.ensures ∙ ap₂ (λ (n : ℕ) (x : Answer). on_id ((let fact : Book = book_of s.args.h s.args.opened.now s.args.ended.now in fact)) a.payer.now a.payee.now a.c n x (held_row ((let fact : Book = book_of s.args.h s.args.opened.now s.args.ended.now in fact)) a.c.id)) p.place_of-p.ensures ((let fact : let a = (p).args in p.decide_parties-parties.result ≡ party_rules a.h a.payer.now a.payee.now a.currency.now (place_of a.h a.payer.now) (place_of a.h a.payee.now) = let a = (p).args in p.decide_parties-parties.ensures ∙ ap₂ (party_rules a.h a.payer.now a.payee.now a.currency.now) p.place_of-p.ensures p.place_of-q.ensures in fact)) in fact)) (sym c.is_done.ensures ∙ c.if-is_done.true))
+    rw (c.place_of-p.ensures, c.place_of-q.ensures)
+    (can_reserve (book_of s.args.h s.args.opened.now s.args.ended.now) s.pre.0 (let fact : length s.args.h.accounts ≡ 32 = simp length-map at s.well_formed.0.1.1.0.1.0.1 in fact) a.payer.now a.payee.now a.currency.now a.c s.pre.1
+    c.decide_id-d.result ((let fact : let s = c in let a = s.args in c.decide_id-d.result ≡ on_id (book_of s.args.h s.args.opened.now s.args.ended.now) a.payer.now a.payee.now a.c (place_of a.h a.payer.now) (party_rules a.h a.payer.now a.payee.now a.currency.now (place_of a.h a.payer.now) (place_of a.h a.payee.now)) (held_row (book_of s.args.h s.args.opened.now s.args.ended.now) a.c.id) = let s = c in let a = s.args in c.decide_id-d.ensures ∙ ap₂ (λ (n : ℕ) (x : Answer). on_id (book_of s.args.h s.args.opened.now s.args.ended.now) a.payer.now a.payee.now a.c n x (held_row (book_of s.args.h s.args.opened.now s.args.ended.now) a.c.id)) c.place_of-p.ensures ((let fact : let a = c.args in c.decide_parties-parties.result ≡ party_rules a.h a.payer.now a.payee.now a.currency.now (place_of a.h a.payer.now) (place_of a.h a.payee.now) = let a = c.args in c.decide_parties-parties.ensures ∙ ap₂ (party_rules a.h a.payer.now a.payee.now a.currency.now) c.place_of-p.ensures c.place_of-q.ensures in fact)) in fact)) (sym c.is_done.ensures ∙ c.if-is_done.true))
 
 pub returns-then-is_done : goal.returns-then-is_done
 returns-then-is_done c =
-    let t = c in
-    let d = t in
-    let p = d in
-    let s = p in
+    let s = c in
     let a = s.args in
     let r = c.reserve.ensures in
-    rw (r.0, r.1, p.place_of-p.ensures, p.place_of-q.ensures)
-    (reserved_by_lem ((let fact : Book = book_of s.args.h s.args.opened.now s.args.ended.now in fact)) s.pre.0 ((let fact : length s.args.h.accounts ≡ 32 = simp length-map at s.well-formed.0.1.1.0.1.0.1 in fact)) a.payer.now a.payee.now a.currency.now a.c
-    d.decide_id-d.result ((let fact : let s = d in let a = s.args in d.decide_id-d.result ≡ on_id ((let fact : Book = book_of s.args.h s.args.opened.now s.args.ended.now in fact)) a.payer.now a.payee.now a.c (place_of a.h a.payer.now) (party_rules a.h a.payer.now a.payee.now a.currency.now (place_of a.h a.payer.now) (place_of a.h a.payee.now)) (held_row ((let fact : Book = book_of s.args.h s.args.opened.now s.args.ended.now in fact)) a.c.id) = let p = d in let s = p in let a = s.args in d.decide_id-d.ensures ∙ ap₂ (λ (n : ℕ) (x : Answer). on_id ((let fact : Book = book_of s.args.h s.args.opened.now s.args.ended.now in fact)) a.payer.now a.payee.now a.c n x (held_row ((let fact : Book = book_of s.args.h s.args.opened.now s.args.ended.now in fact)) a.c.id)) p.place_of-p.ensures ((let fact : let a = (p).args in p.decide_parties-parties.result ≡ party_rules a.h a.payer.now a.payee.now a.currency.now (place_of a.h a.payer.now) (place_of a.h a.payee.now) = let a = (p).args in p.decide_parties-parties.ensures ∙ ap₂ (party_rules a.h a.payer.now a.payee.now a.currency.now) p.place_of-p.ensures p.place_of-q.ensures in fact)) in fact)) (sym t.is_done.ensures ∙ t.if-is_done.true))
+    rw (r.0, r.1, c.place_of-p.ensures, c.place_of-q.ensures)
+    (reserved_by_lem (book_of s.args.h s.args.opened.now s.args.ended.now) s.pre.0 (let fact : length s.args.h.accounts ≡ 32 = simp length-map at s.well_formed.0.1.1.0.1.0.1 in fact) a.payer.now a.payee.now a.currency.now a.c
+    c.decide_id-d.result ((let fact : let s = c in let a = s.args in c.decide_id-d.result ≡ on_id (book_of s.args.h s.args.opened.now s.args.ended.now) a.payer.now a.payee.now a.c (place_of a.h a.payer.now) (party_rules a.h a.payer.now a.payee.now a.currency.now (place_of a.h a.payer.now) (place_of a.h a.payee.now)) (held_row (book_of s.args.h s.args.opened.now s.args.ended.now) a.c.id) = let s = c in let a = s.args in c.decide_id-d.ensures ∙ ap₂ (λ (n : ℕ) (x : Answer). on_id (book_of s.args.h s.args.opened.now s.args.ended.now) a.payer.now a.payee.now a.c n x (held_row (book_of s.args.h s.args.opened.now s.args.ended.now) a.c.id)) c.place_of-p.ensures ((let fact : let a = c.args in c.decide_parties-parties.result ≡ party_rules a.h a.payer.now a.payee.now a.currency.now (place_of a.h a.payer.now) (place_of a.h a.payee.now) = let a = c.args in c.decide_parties-parties.ensures ∙ ap₂ (party_rules a.h a.payer.now a.payee.now a.currency.now) c.place_of-p.ensures c.place_of-q.ensures in fact)) in fact)) (sym c.is_done.ensures ∙ c.if-is_done.true))
 
 pub returns : goal.returns
 returns c =
-    let d = c in
-    let s = d in
+    let s = c in
     let a = s.args in
     rw c.reply.ensures
-    (refused ((let fact : Book = book_of s.args.h s.args.opened.now s.args.ended.now in fact)) s.pre.0 ((let fact : length s.args.h.accounts ≡ 32 = simp length-map at s.well-formed.0.1.1.0.1.0.1 in fact)) a.payer.now a.payee.now a.currency.now a.c
-    d.decide_id-d.result ((let fact : let s = d in let a = s.args in d.decide_id-d.result ≡ on_id ((let fact : Book = book_of s.args.h s.args.opened.now s.args.ended.now in fact)) a.payer.now a.payee.now a.c (place_of a.h a.payer.now) (party_rules a.h a.payer.now a.payee.now a.currency.now (place_of a.h a.payer.now) (place_of a.h a.payee.now)) (held_row ((let fact : Book = book_of s.args.h s.args.opened.now s.args.ended.now in fact)) a.c.id) = let p = d in let s = p in let a = s.args in d.decide_id-d.ensures ∙ ap₂ (λ (n : ℕ) (x : Answer). on_id ((let fact : Book = book_of s.args.h s.args.opened.now s.args.ended.now in fact)) a.payer.now a.payee.now a.c n x (held_row ((let fact : Book = book_of s.args.h s.args.opened.now s.args.ended.now in fact)) a.c.id)) p.place_of-p.ensures ((let fact : let a = (p).args in p.decide_parties-parties.result ≡ party_rules a.h a.payer.now a.payee.now a.currency.now (place_of a.h a.payer.now) (place_of a.h a.payee.now) = let a = (p).args in p.decide_parties-parties.ensures ∙ ap₂ (party_rules a.h a.payer.now a.payee.now a.currency.now) p.place_of-p.ensures p.place_of-q.ensures in fact)) in fact)) (sym c.is_done.ensures ∙ c.if-is_done.false))
+    (refused (book_of s.args.h s.args.opened.now s.args.ended.now) s.pre.0 (let fact : length s.args.h.accounts ≡ 32 = simp length-map at s.well_formed.0.1.1.0.1.0.1 in fact) a.payer.now a.payee.now a.currency.now a.c
+    c.decide_id-d.result ((let fact : let s = c in let a = s.args in c.decide_id-d.result ≡ on_id (book_of s.args.h s.args.opened.now s.args.ended.now) a.payer.now a.payee.now a.c (place_of a.h a.payer.now) (party_rules a.h a.payer.now a.payee.now a.currency.now (place_of a.h a.payer.now) (place_of a.h a.payee.now)) (held_row (book_of s.args.h s.args.opened.now s.args.ended.now) a.c.id) = let s = c in let a = s.args in c.decide_id-d.ensures ∙ ap₂ (λ (n : ℕ) (x : Answer). on_id (book_of s.args.h s.args.opened.now s.args.ended.now) a.payer.now a.payee.now a.c n x (held_row (book_of s.args.h s.args.opened.now s.args.ended.now) a.c.id)) c.place_of-p.ensures ((let fact : let a = c.args in c.decide_parties-parties.result ≡ party_rules a.h a.payer.now a.payee.now a.currency.now (place_of a.h a.payer.now) (place_of a.h a.payee.now) = let a = c.args in c.decide_parties-parties.ensures ∙ ap₂ (party_rules a.h a.payer.now a.payee.now a.currency.now) c.place_of-p.ensures c.place_of-q.ensures in fact)) in fact)) (sym c.is_done.ensures ∙ c.if-is_done.false))

@@ -20,10 +20,8 @@ overflow_add-n c = omega (arith, c.counted-n.ensures.1)
 
 pub loop-k-preserved : goal.loop-k-preserved
 loop-k-preserved c =
-    let at = c in
-    let a = at in
-    let l = at.loop-k in
-    let more = count-slot a.args.opened.now a.args.slots l.k l.n c.counted-n.result a.requires (omega arith) l.invariant.2
+    let l = c.loop-k in
+    let more = count-slot c.args.opened.now c.args.slots l.k l.n c.counted-n.result c.requires (omega arith) l.invariant.2
     c.counted-n.ensures.0 in
     (omega arith, omega (arith, c.counted-n.ensures.1), more)
 

@@ -12,9 +12,8 @@ use Rattle.record.proofs.has_id.Goals as goal
 pub returns-then-same : goal.returns-then-same
 unfolding holds get
 returns-then-same c =
-    let t = c in
-    let r = t.args.part.now in
-    rw (num_byte 16 r (omega arith), ← t.same.ensures, c.if-same.true) (sym (and-true _))
+    let r = c.args.part.now in
+    rw (num_byte 16 r (omega arith), ← c.same.ensures, c.if-same.true) (sym (and-true _))
 
 pub returns : goal.returns
 unfolding holds get

@@ -10,16 +10,12 @@ use Rattle.record.proofs.move_ended.Goals as goal
 
 pub returns : goal.returns
 returns c =
-    let third = c in
-    let second = third in
-    let first = second in
-    let start = first in
-    let a = start.args in
+    let a = c.args in
     let r = row a.opened.now a.slot in (
-      row_cleared a.opened.now second.clear.new.0 a.slot start.requires.0 second.clear.ensures,
-      row_anew a.ended.now first.put.new.0 third.set_ending.new.0 r a.place
-          (ended_row a.e.state a.e.by a.e.code a.e.fulfilment) start.requires.1
-          (length-row a.opened.now a.slot start.requires.0)
-          (first.put.ensures ∙ ap (sets a.ended.now (a.place * 160)) (lent_row a.opened.now a.slot))
-          third.set_ending.auto.0 third.set_ending.ensures,
+      row_cleared a.opened.now c.clear.new.s a.slot c.requires.0 c.clear.ensures,
+      row_anew a.ended.now c.put.new.out c.set_ending.new.part r a.place
+          (ended_row a.e.state a.e.by a.e.code a.e.fulfilment) c.requires.1
+          (length-row a.opened.now a.slot c.requires.0)
+          (c.put.ensures ∙ ap (sets a.ended.now (a.place * 160)) (lent_row a.opened.now a.slot))
+          c.set_ending.auto.part c.set_ending.ensures,
     )

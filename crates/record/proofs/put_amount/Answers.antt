@@ -7,13 +7,10 @@ use Rattle.record.proofs.put_amount.Goals as goal
 
 pub returns : goal.returns
 returns c =
-    let third = c in
-    let second = third in
-    let first = second in
     rw (
-      third.put_number-3.ensures,
-      second.put_number-2.ensures,
-      first.put_number.ensures,
-      third.unsigned.ensures,
-      to_z-of_z ((let fact : SFits w64 first.args.expiration = search rules in fact)),
+      c.put_number-3.ensures,
+      c.put_number-2.ensures,
+      c.put_number.ensures,
+      c.unsigned.ensures,
+      to_z-of_z (search rules),
     )

@@ -4,7 +4,4 @@ use Rattle.record.proofs.put_hashes.Goals as goal
 
 pub returns : goal.returns
 returns c =
-    let third = c in
-    let second = third in
-    let first = second in
-    rw (third.put_number.ensures, second.put-2.ensures, first.put.ensures)
+    rw (c.put_number.ensures, c.put-2.ensures, c.put.ensures)

@@ -11,17 +11,13 @@ put_number-requires c = (search rules, simp length-set (omega arith))
 
 pub put-requires : goal.put-requires
 put-requires c =
-    let second = c in
-    let start = second in
-    omega (arith, (let fact : length second.put_number.new.0 ≡ length second.args.part.now = second.put_number.auto.0 ∙ (simp length-set) in fact), start.requires, (let fact : length start.args.e.fulfilment ≡ 32 = search rules in fact))
+    omega (arith, (let fact : length c.put_number.new.out ≡ length c.args.part.now = c.put_number.auto.out ∙ (simp length-set) in fact), c.requires, (let fact : length c.args.e.fulfilment ≡ 32 = search rules in fact))
 
 pub shape_of-part : goal.shape_of-part
 shape_of-part c =
-    let last = c in
-    last.put.auto.0 ∙ (let fact : length last.put_number.new.0 ≡ length last.args.part.now = last.put_number.auto.0 ∙ (simp length-set) in fact)
+    c.put.auto.out ∙ (let fact : length c.put_number.new.out ≡ length c.args.part.now = c.put_number.auto.out ∙ (simp length-set) in fact)
 
 pub returns : goal.returns
 unfolding ended_row
 returns c =
-    let last = c in
-    rw (last.put.ensures, last.put_number.ensures)
+    rw (c.put.ensures, c.put_number.ensures)

@@ -7,6 +7,5 @@ use Rattle.record.proofs.units_of.Goals as goal
 
 pub returns : goal.returns
 returns c =
-    let upper = c in
-    let r = upper.args.part.now in
-    rw (upper.four-upper.ensures, c.four-lower.ensures) (sym (num_units r (omega arith)))
+    let r = c.args.part.now in
+    rw (c.four-upper.ensures, c.four-lower.ensures) (sym (num_units r (omega arith)))

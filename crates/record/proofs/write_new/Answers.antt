@@ -14,26 +14,19 @@ put_parties-requires c = (let fact : length c.args.part.now ≡ 160 = ap length 
 
 pub put_amount-requires : goal.put_amount-requires
 put_amount-requires c =
-    let first = c in
-    first.put_parties.auto.0 ∙ (let fact : length first.args.part.now ≡ 160 = ap length first.requires ∙ length-zeros 160 in fact)
+    c.put_parties.auto.part ∙ (let fact : length c.args.part.now ≡ 160 = ap length c.requires ∙ length-zeros 160 in fact)
 
 pub put_hashes-requires : goal.put_hashes-requires
 put_hashes-requires c =
-    let second = c in
-    let first = second in
-    second.put_amount.auto.0 ∙ first.put_parties.auto.0 ∙ (let fact : length first.args.part.now ≡ 160 = ap length first.requires ∙ length-zeros 160 in fact)
+    c.put_amount.auto.part ∙ c.put_parties.auto.part ∙ (let fact : length c.args.part.now ≡ 160 = ap length c.requires ∙ length-zeros 160 in fact)
 
 pub returns : goal.returns
 unfolding new_row
 returns c =
-    let third = c in
-    let second = third in
-    let first = second in
-    let start = first in
     rw (
-      third.put_hashes.ensures,
-      second.put_amount.ensures,
-      first.put_parties.ensures,
-      start.requires,
-      to_z-of_z ((let fact : SFits w64 start.args.c.expiration = search rules in fact)),
+      c.put_hashes.ensures,
+      c.put_amount.ensures,
+      c.put_parties.ensures,
+      c.requires,
+      to_z-of_z (search rules),
     )

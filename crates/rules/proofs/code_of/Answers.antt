@@ -43,7 +43,7 @@ in_row NoRoom = (omega arith, refl)
 in_row Resend = (omega arith, refl)
 
 pub bounds-codes-number_of : goal.bounds-codes-number_of
-bounds-codes-number_of c = rw c.number_of_lem.ensures (in_row c.args.a).0
+bounds-codes-number_of c = rw c.number_of.ensures (in_row c.args.a).0
 
 pub returns : goal.returns
-returns c = rw c.number_of_lem.ensures (in_row c.args.a).1
+returns c = rw c.number_of.ensures (in_row c.args.a).1

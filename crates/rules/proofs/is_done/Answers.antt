@@ -5,4 +5,4 @@ use Rattle.rules.proofs.number_of.Reads as number-of-reads
 use Rattle.rules.proofs.is_done.Goals as goal
 
 pub returns : goal.returns
-returns c = rw c.number_of_lem.ensures
+returns c = rw c.number_of.ensures

@@ -6,9 +6,6 @@ use Rattle.sha256.proofs.hash.Goals as goal
 
 pub returns : goal.returns
 returns c =
-    let made = c in
-    let whole = made in
-    let start = whole in
-    let m = start.args.message.now in
-    parts_hashed m made.made-end.result made.size-size.result start.start.ensures whole.absorbed-whole.ensures
-    made.made-end.ensures c.absorbed.ensures c.bytes_of.ensures
+    let m = c.args.message.now in
+    parts_hashed m c.made-end.result c.size-size.result c.start.ensures c.absorbed-whole.ensures
+    c.made-end.ensures c.absorbed.ensures c.bytes_of.ensures

@@ -15,20 +15,19 @@ unfolding build
 loop-k-init c = (omega arith, refl, refl)
 
 pub bounds-s-at : goal.bounds-s-at
-bounds-s-at c = omega (arith, (let fact : c.place_of-at.result + 1 < length c.args.s.now = let a = c in place_in a.args.s.now a.requires c.loop-k.k _ c.place_of-at.ensures (search rules) in fact))
+bounds-s-at c = omega (arith, (let fact : c.place_of-at.result + 1 < length c.args.s.now = place_in c.args.s.now c.requires c.loop-k.k _ c.place_of-at.ensures (search rules) in fact))
 
 pub overflow_add-at : goal.overflow_add-at
-overflow_add-at c = omega (arith, (let fact : c.place_of-at.result + 1 < length c.args.s.now = let a = c in place_in a.args.s.now a.requires c.loop-k.k _ c.place_of-at.ensures (search rules) in fact))
+overflow_add-at c = omega (arith, (let fact : c.place_of-at.result + 1 < length c.args.s.now = place_in c.args.s.now c.requires c.loop-k.k _ c.place_of-at.ensures (search rules) in fact))
 
 pub bounds-s-at-in-loop-k : goal.bounds-s-at-in-loop-k
-bounds-s-at-in-loop-k c = omega (arith, (let fact : c.place_of-at.result + 1 < length c.args.s.now = let a = c in place_in a.args.s.now a.requires c.loop-k.k _ c.place_of-at.ensures (search rules) in fact))
+bounds-s-at-in-loop-k c = omega (arith, (let fact : c.place_of-at.result + 1 < length c.args.s.now = place_in c.args.s.now c.requires c.loop-k.k _ c.place_of-at.ensures (search rules) in fact))
 
 pub loop-k-preserved : goal.loop-k-preserved
 loop-k-preserved c =
-    let a = c in
     let l = c.loop-k in
-    let s = a.args.s.now in
-    let value = c.pair_of.ensures ∙ pair_is s a.requires l.k _ c.place_of-at.ensures (search rules) in (
+    let s = c.args.s.now in
+    let value = c.pair_of.ensures ∙ pair_is s c.requires l.k _ c.place_of-at.ensures (search rules) in (
       omega arith,
       length-set l.id l.k _ ∙ l.invariant.1,
       build-step (byte_at s) l.id l.k _ l.invariant.2 value (search rules),

@@ -8,12 +8,11 @@ use borrow.Author.Rules.{rules}
 use Rattle.uuid_text.proofs.read_id.Goals as goal
 
 pub bytes_of-id-requires : goal.bytes_of-id-requires
-bytes_of-id-requires c = goes_through _ ((let fact : Bytes c.args.s.now = bytes c.args.s.now (λ (i : ℕ). (c.shared_slice_known-1.given i).fits) in fact)) _ c.stop_of-stop.ensures c.if-stop-s.true
+bytes_of-id-requires c = goes_through _ ((bytes c.args.s.now (λ (i : ℕ). (c.shared_slice_known-1.given i).fits))) _ c.stop_of-stop.ensures c.if-stop-s.true
 
 pub returns-then-stop-s : goal.returns-then-stop-s
 returns-then-stop-s c =
-    let t = c in
-    read_fits _ _ (goes_through _ ((let fact : Bytes t.args.s.now = bytes t.args.s.now (λ (i : ℕ). (t.shared_slice_known-1.given i).fits) in fact)) _ t.stop_of-stop.ensures t.if-stop-s.true) c.bytes_of-id.ensures
+    read_fits _ _ (goes_through _ ((bytes c.args.s.now (λ (i : ℕ). (c.shared_slice_known-1.given i).fits))) _ c.stop_of-stop.ensures c.if-stop-s.true) c.bytes_of-id.ensures
 
 pub returns : goal.returns
-returns c = read_stops _ _ (stops_there _ ((let fact : Bytes c.args.s.now = bytes c.args.s.now (λ (i : ℕ). (c.shared_slice_known-1.given i).fits) in fact)) _ c.stop_of-stop.ensures c.if-stop-s.false)
+returns c = read_stops _ _ (stops_there _ ((bytes c.args.s.now (λ (i : ℕ). (c.shared_slice_known-1.given i).fits))) _ c.stop_of-stop.ensures c.if-stop-s.false)

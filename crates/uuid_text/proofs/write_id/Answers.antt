@@ -8,12 +8,12 @@ use Rattle.uuid_text.proofs.write_id.Goals as goal
 pub returns-then-out-lt36 : goal.returns-then-out-lt36
 returns-then-out-lt36 c =
     let a = c.args in
-    let f = c.in_form_lem in
+    let f = c.in_form in
     (no_room a.id.now (length a.out.now) (sym f.ensures ∙ c.if-in_form.true) c.if-out-lt36.true, refl)
 
 pub put_text-requires : goal.put_text-requires
 put_text-requires c =
-    let f = c.in_form_lem in (
+    let f = c.in_form in (
       in_form_long c.args.id.now (sym f.ensures
           ∙ c.if-in_form.true),
       c.if-out-lt36.false,
@@ -22,7 +22,7 @@ put_text-requires c =
 pub returns-then-in_form : goal.returns-then-in_form
 returns-then-in_form c =
     let a = c.args in
-    let f = c.in_form_lem in (
+    let f = c.in_form in (
       written a.id.now (length a.out.now) (sym f.ensures ∙ c.if-in_form.true)
           c.if-out-lt36.false,
       c.put_text.ensures ∙ text_put a.id.now a.out.now c.if-out-lt36.false,
@@ -31,4 +31,4 @@ returns-then-in_form c =
 pub returns : goal.returns
 returns c =
     let a = c.args in
-    (not_in_form a.id.now (length a.out.now) (sym c.in_form_lem.ensures ∙ c.if-in_form.false), refl)
+    (not_in_form a.id.now (length a.out.now) (sym c.in_form.ensures ∙ c.if-in_form.false), refl)

@@ -5,8 +5,7 @@ use borrow.Author.Rules.{rules}
 use Rattle.datetime.proofs.calendar.year_of.Goals as goal
 
 pub returns : goal.returns
-returns c = let s = c in
-    let at = c.century_of-century in
-    let found = year_in s.args.n s.requires.0 s.requires.1 at.result c.before_century.result c.filled.result _
+returns c = let at = c.century_of-century in
+    let found = year_in c.args.n c.requires.0 c.requires.1 at.result c.before_century.result c.filled.result _
     at.ensures.0 c.before_century.ensures.0 c.filled.ensures.0 refl in
     (found.0, at.ensures.1, found.1)

@@ -5,13 +5,13 @@ use borrow.Author.Rules.{rules}
 use Rattle.datetime.proofs.reader.clock_time.Goals as goal
 
 pub digits_at-hour-requires : goal.digits_at-hour-requires
-digits_at-hour-requires c = let s = c in (omega arith, (clocked s.args.s.now s.requires.1).0)
+digits_at-hour-requires c = (omega arith, (clocked c.args.s.now c.requires.1).0)
 
 pub digits_at-minute-requires : goal.digits_at-minute-requires
-digits_at-minute-requires c = let s = c in (omega arith, (clocked s.args.s.now s.requires.1).1)
+digits_at-minute-requires c = (omega arith, (clocked c.args.s.now c.requires.1).1)
 
 pub digits_at-second-requires : goal.digits_at-second-requires
-digits_at-second-requires c = let s = c in (omega arith, (clocked s.args.s.now s.requires.1).2)
+digits_at-second-requires c = (omega arith, (clocked c.args.s.now c.requires.1).2)
 
 pub digits_at-hundredth-requires : goal.digits_at-hundredth-requires
-digits_at-hundredth-requires c = let s = c in (omega arith, (clocked s.args.s.now s.requires.1).3)
+digits_at-hundredth-requires c = (omega arith, (clocked c.args.s.now c.requires.1).3)

@@ -16,22 +16,22 @@ returns-then-century-ne2 c = let reached = c.pair_end-century.ensures in rw (sho
 
 pub returns-then-year-ne4 : goal.returns-then-year-ne4
 unfolding date_end
-returns-then-year-ne4 c = let reached = c.pair_end-year.ensures in rw ((let fact : eqb (pair_end ((let fact : List ℕ = c.args.s.now in fact)) 0 10 99) 2 ≡ true = came_to c.pair_end-century.ensures c.if-century-ne2.false in fact), short_of reached c.if-year-ne4.true) reached
+returns-then-year-ne4 c = let reached = c.pair_end-year.ensures in rw ((let fact : eqb (pair_end (c.args.s.now) 0 10 99) 2 ≡ true = came_to c.pair_end-century.ensures c.if-century-ne2.false in fact), short_of reached c.if-year-ne4.true) reached
 
 pub returns-then-month-ne7 : goal.returns-then-month-ne7
 unfolding date_end
 returns-then-month-ne7 c = let reached = c.marked_end-month.ensures in
-    rw ((let fact : eqb (pair_end ((let fact : List ℕ = c.args.s.now in fact)) 0 10 99) 2 ≡ true = came_to c.pair_end-century.ensures c.if-century-ne2.false in fact), (let fact : eqb (pair_end ((let fact : List ℕ = c.args.s.now in fact)) 2 0 99) 4 ≡ true = came_to c.pair_end-year.ensures c.if-year-ne4.false in fact), short_of reached c.if-month-ne7.true) reached
+    rw ((let fact : eqb (pair_end (c.args.s.now) 0 10 99) 2 ≡ true = came_to c.pair_end-century.ensures c.if-century-ne2.false in fact), (let fact : eqb (pair_end (c.args.s.now) 2 0 99) 4 ≡ true = came_to c.pair_end-year.ensures c.if-year-ne4.false in fact), short_of reached c.if-month-ne7.true) reached
 
 pub days-requires : goal.days-requires
 days-requires c = let reached = c.marked_end-month.ensures in
-    (month_passed ((let fact : List ℕ = c.args.s.now in fact)) (sym reached ∙ c.if-month-ne7.false)).2
+    (month_passed (c.args.s.now) (sym reached ∙ c.if-month-ne7.false)).2
 
 pub returns : goal.returns
 unfolding date_end
 returns c = rw (
-  (let fact : eqb (pair_end ((let fact : List ℕ = c.args.s.now in fact)) 0 10 99) 2 ≡ true = came_to c.pair_end-century.ensures c.if-century-ne2.false in fact),
-  (let fact : eqb (pair_end ((let fact : List ℕ = c.args.s.now in fact)) 2 0 99) 4 ≡ true = came_to c.pair_end-year.ensures c.if-year-ne4.false in fact),
-  (let fact : eqb (marked_end ((let fact : List ℕ = c.args.s.now in fact)) 4 (code "-") 1 12) 7 ≡ true = came_to c.marked_end-month.ensures c.if-month-ne7.false in fact),
+  (let fact : eqb (pair_end (c.args.s.now) 0 10 99) 2 ≡ true = came_to c.pair_end-century.ensures c.if-century-ne2.false in fact),
+  (let fact : eqb (pair_end (c.args.s.now) 2 0 99) 4 ≡ true = came_to c.pair_end-year.ensures c.if-year-ne4.false in fact),
+  (let fact : eqb (marked_end (c.args.s.now) 4 (code "-") 1 12) 7 ≡ true = came_to c.marked_end-month.ensures c.if-month-ne7.false in fact),
 )
     (rw c.days.ensures.0 at c.marked_end.ensures)

@@ -6,11 +6,11 @@ use Rattle.datetime.proofs.reader.days.Goals as goal
 pub returns : goal.returns
 returns c = (
   rw (
-    c.month_days_lem.ensures.0,
+    c.month_days.ensures.0,
     c.leap.ensures,
     c.two_at-month.ensures.0,
     c.two_at-year.ensures.0,
     c.two_at-century.ensures.0,
   ),
-  omega (arith, c.month_days_lem.ensures.1),
+  omega (arith, c.month_days.ensures.1),
 )

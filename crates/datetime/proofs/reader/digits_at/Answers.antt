@@ -6,6 +6,5 @@ use borrow.Author.Rules.{rules}
 use Rattle.datetime.proofs.reader.digits_at.Goals as goal
 
 pub returns : goal.returns
-returns c = let s = c in
-    let e = c.two_at.ensures.0 in
-    (e ∙ shown-number s.args.s.now s.args.i s.requires.1, subst⁻¹ (λ (n : ℕ). n < 100) e s.requires.1)
+returns c = let e = c.two_at.ensures.0 in
+    (e ∙ shown-number c.args.s.now c.args.i c.requires.1, subst⁻¹ (λ (n : ℕ). n < 100) e c.requires.1)

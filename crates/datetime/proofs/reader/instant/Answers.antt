@@ -12,37 +12,32 @@ pub local_time-local-requires : goal.local_time-local-requires
 local_time-local-requires c = whole c.args.s.now c.requires
 
 pub returns-then-s-eq24 : goal.returns-then-s-eq24
-returns-then-s-eq24 c = let s = c in
-    let local = c.local_time-local in
-    let z = ends_utc s.args.s.now s.requires c.if-s-eq24.true in
+returns-then-s-eq24 c = let local = c.local_time-local in
+    let z = ends_utc c.args.s.now c.requires c.if-s-eq24.true in
     to_z-of_z (record { sfits = c.difference.type-inv })
     ∙ c.difference.ensures
-    ∙ neither s.args.s.now local.result local.ensures.0 (λ e. eqb-false 90 43 refl (sym z ∙ e))
+    ∙ neither c.args.s.now local.result local.ensures.0 (λ e. eqb-false 90 43 refl (sym z ∙ e))
     (λ e. eqb-false 90 45 refl (sym z ∙ e))
 
 pub offset-away-requires : goal.offset-away-requires
-offset-away-requires c = let s = c in
-    let z = ends_away s.args.s.now s.requires c.if-s-eq24.false in
+offset-away-requires c = let z = ends_away c.args.s.now c.requires c.if-s-eq24.false in
     (omega (arith, z.long), z.offset-away)
 
 pub bounds-s-23 : goal.bounds-s-23
-bounds-s-23 c = let s = c in
-    omega (arith, (whole s.args.s.now s.requires).0)
+bounds-s-23 c = omega (arith, (whole c.args.s.now c.requires).0)
 
 pub returns-then-sign-eq43 : goal.returns-then-sign-eq43
-returns-then-sign-eq43 c = let s = c in
-    let local = c.local_time-local in
+returns-then-sign-eq43 c = let local = c.local_time-local in
     let away = c.offset-away in
     to_z-of_z (record { sfits = c.difference-then-sign-eq43.type-inv })
     ∙ c.difference-then-sign-eq43.ensures
-    ∙ ahead s.args.s.now local.result local.ensures.0 c.if-sign-eq43.true away.result away.ensures.0
+    ∙ ahead c.args.s.now local.result local.ensures.0 c.if-sign-eq43.true away.result away.ensures.0
 
 pub returns : goal.returns
-returns c = let s = c in
-    let local = c.local_time-local in
+returns c = let local = c.local_time-local in
     let away = c.offset-away in
-    let minus = other_sign _ (ends_away s.args.s.now s.requires c.if-s-eq24.false).sign
+    let minus = other_sign _ (ends_away c.args.s.now c.requires c.if-s-eq24.false).sign
     c.if-sign-eq43.false in
     to_z-of_z (record { sfits = c.difference-2.type-inv })
     ∙ c.difference-2.ensures
-    ∙ behind s.args.s.now local.result local.ensures.0 minus away.result away.ensures.0
+    ∙ behind c.args.s.now local.result local.ensures.0 minus away.result away.ensures.0

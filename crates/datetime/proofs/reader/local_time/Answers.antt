@@ -6,27 +6,26 @@ use borrow.Author.Rules.{rules}
 use Rattle.datetime.proofs.reader.local_time.Goals as goal
 
 pub digits_at-century-requires : goal.digits_at-century-requires
-digits_at-century-requires c = let s = c in (omega arith, (dated s.args.s.now s.requires.1).0)
+digits_at-century-requires c = (omega arith, (dated c.args.s.now c.requires.1).0)
 
 pub digits_at-year-requires : goal.digits_at-year-requires
-digits_at-year-requires c = let s = c in (omega arith, (dated s.args.s.now s.requires.1).1)
+digits_at-year-requires c = (omega arith, (dated c.args.s.now c.requires.1).1)
 
 pub digits_at-month-requires : goal.digits_at-month-requires
-digits_at-month-requires c = let s = c in (omega arith, omega (arith, (dated s.args.s.now s.requires.1).3))
+digits_at-month-requires c = (omega arith, omega (arith, (dated c.args.s.now c.requires.1).3))
 
 pub digits_at-day-requires : goal.digits_at-day-requires
-digits_at-day-requires c = let s = c in (
+digits_at-day-requires c = (
   omega arith,
   omega (
     arith,
-    (dated s.args.s.now s.requires.1
+    (dated c.args.s.now c.requires.1
         ).5,
   ),
 )
 
 pub day_number-n-requires : goal.day_number-n-requires
-day_number-n-requires c = let s = c in
-    let r = date_ranges s.args.s.now s.requires.1 _ _ c.digits_at-month.ensures.0 c.digits_at-day.ensures.0 in
+day_number-n-requires c = let r = date_ranges c.args.s.now c.requires.1 _ _ c.digits_at-month.ensures.0 c.digits_at-day.ensures.0 in
     (omega arith, omega arith, r.0, r.1, r.2, r.3)
 
 pub returns : goal.returns

@@ -5,7 +5,7 @@ use borrow.Author.Rules.{rules}
 use Rattle.datetime.proofs.reader.offset.Goals as goal
 
 pub digits_at-hour-requires : goal.digits_at-hour-requires
-digits_at-hour-requires c = let s = c in (omega arith, (set_off s.args.s.now s.requires.1).0)
+digits_at-hour-requires c = (omega arith, (set_off c.args.s.now c.requires.1).0)
 
 pub digits_at-minute-requires : goal.digits_at-minute-requires
-digits_at-minute-requires c = let s = c in (omega arith, (set_off s.args.s.now s.requires.1).1)
+digits_at-minute-requires c = (omega arith, (set_off c.args.s.now c.requires.1).1)

@@ -7,5 +7,4 @@ pub returns-then-i-s : goal.returns-then-i-s
 returns-then-i-s c = rw c.two_at-v.ensures.0
 
 pub returns : goal.returns
-returns c = let s = c in
-    not-shown s.args.s.now s.args.i s.args.least s.args.most s.requires.1 c.if-i-s.false
+returns c = not-shown c.args.s.now c.args.i c.args.least c.args.most c.requires.1 c.if-i-s.false

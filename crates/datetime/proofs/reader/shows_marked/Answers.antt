@@ -12,10 +12,9 @@ pub returns-then-i-s : goal.returns-then-i-s
 returns-then-i-s c = rw c.two_at-v.ensures.0
 
 pub returns : goal.returns
-returns c = let s = c in
-    subst (λ (t : Bool). false ≡ (is s.args.s.now s.args.i s.args.mark && t))
-    (not-shown s.args.s.now (s.args.i + 1) s.args.least s.args.most s.requires.1 (omega arith))
-    (neither (is s.args.s.now s.args.i s.args.mark))
+returns c = subst (λ (t : Bool). false ≡ (is c.args.s.now c.args.i c.args.mark && t))
+    (not-shown c.args.s.now (c.args.i + 1) c.args.least c.args.most c.requires.1 (omega arith))
+    (neither (is c.args.s.now c.args.i c.args.mark))
   where
     neither : (m : Bool) → false ≡ (m && false)
     neither true = refl

@@ -5,6 +5,5 @@ use Rattle.datetime.proofs.Texts.{utc_halves}
 use Rattle.datetime.proofs.writer.spell.Goals as goal
 
 pub returns : goal.returns
-returns c = let s = c in
-    let d = s.args.date in
-    cc (utc_halves d.century d.year d.month d.day s.args.t (suc-le-suc s.pre.0) (suc-le-suc s.pre.1))
+returns c = let d = c.args.date in
+    cc (utc_halves d.century d.year d.month d.day c.args.t (suc-le-suc c.pre.0) (suc-le-suc c.pre.1))

@@ -7,14 +7,12 @@ use Rattle.prepare.proofs.fields.amount_field.Goals as goal
 
 pub returns-in-Value : goal.returns-in-Value
 returns-in-Value c =
-    let read = c in
-    let s = read.args.s.now in
-    let t = amount-value s _ (sym read.read_amount-read.ensures ∙ c.read.given.1) in
+    let s = c.args.s.now in
+    let t = amount-value s _ (sym c.read_amount-read.ensures ∙ c.in-Value.is) in
     (sym t.0, λ e. sym t.1)
 
 pub returns-in-Refused : goal.returns-in-Refused
 returns-in-Refused c =
-    let read = c in
-    let s = read.args.s.now in
-    let t = amount_refused s _ (sym read.read_amount-read.ensures ∙ c.enum_told.given.1) in
+    let s = c.args.s.now in
+    let t = amount_refused s _ (sym c.read_amount-read.ensures ∙ c.in-Refused.is) in
     (sym t, λ e. absurd (false≢true e))

@@ -8,19 +8,17 @@ use borrow.Author.Rules.{rules}
 use Rattle.rules.proofs.Fields.{instant_value, instant_refused}
 use Rattle.prepare.proofs.fields.instant_field.Goals as goal
 
-fits : (c : goal.In-Value) → SFits w64 c.read.given.0.0
+fits : (c : goal.In-Value) → SFits w64 c.in-Value.instant
 fits c = search rules
 
 pub returns-in-Value : goal.returns-in-Value
 returns-in-Value c =
-    let read = c in
-    let s = read.args.s.now in
-    let t = instant_value s _ (sym read.read_datetime-read.ensures ∙ c.read.given.1) in
+    let s = c.args.s.now in
+    let t = instant_value s _ (sym c.read_datetime-read.ensures ∙ c.in-Value.is) in
     (sym t.0, λ e. to_z-of_z (fits c) ∙ sym t.1)
 
 pub returns-in-Refused : goal.returns-in-Refused
 returns-in-Refused c =
-    let read = c in
-    let s = read.args.s.now in
-    let t = instant_refused s _ (sym read.read_datetime-read.ensures ∙ c.enum_told.given.1) in
+    let s = c.args.s.now in
+    let t = instant_refused s _ (sym c.read_datetime-read.ensures ∙ c.in-Refused.is) in
     (sym t, λ e. absurd (false≢true e))

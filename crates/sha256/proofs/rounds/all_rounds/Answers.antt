@@ -12,12 +12,11 @@ loop-t-init c = (search rules, search rules, search rules, c.begun-w.ensures, re
 
 pub loop-t-preserved : goal.loop-t-preserved
 loop-t-preserved c =
-    let x = c in
-    let l = x.loop-t in
-    let a = x.args in
+    let l = c.loop-t in
+    let a = c.args in
     let m = a.block.now in
-    let w = x.extend.new.0 in
-    let there : There (l.t + 16 + 8) m w = x.extend.ensures.1 m l.invariant.3 in
+    let w = c.extend.new.w in
+    let there : There (l.t + 16 + 8) m w = c.extend.ensures.1 m l.invariant.3 in
     let e : l.t + 8 + 16 ≡ l.t + 16 + 8 = omega arith in (
       search rules,
       search rules,

@@ -5,7 +5,6 @@ use Rattle.sha256.proofs.rounds.eight_rounds.Goals as goal
 
 pub returns : goal.returns
 returns c =
-    let b = c in
-    let a = b.args in
-    rounds_eight a.w.now a.s _ _ _ _ a.t b.two_rounds-two.ensures c.two_rounds-four.ensures
+    let a = c.args in
+    rounds_eight a.w.now a.s _ _ _ _ a.t c.two_rounds-two.ensures c.two_rounds-four.ensures
     c.two_rounds-six.ensures c.two_rounds.ensures

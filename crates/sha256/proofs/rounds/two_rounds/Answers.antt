@@ -5,7 +5,5 @@ use Rattle.sha256.proofs.rounds.two_rounds.Goals as goal
 
 pub returns : goal.returns
 returns c =
-    let b = c in
-    let start = b in
-    let a = start.args in
-    rounds-two a.k.now a.w.now a.t a.s _ _ start.requires.0 b.one_round-one.ensures c.one_round.ensures
+    let a = c.args in
+    rounds-two a.k.now a.w.now a.t a.s _ _ c.requires.0 c.one_round-one.ensures c.one_round.ensures

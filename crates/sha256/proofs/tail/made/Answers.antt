@@ -5,5 +5,4 @@ use Rattle.sha256.proofs.tail.made.Goals as goal
 
 pub returns : goal.returns
 returns c =
-    let b = c in
-    end_made b.args.message.now _ _ b.args.size b.requires c.marked.ensures c.counted.ensures
+    end_made c.args.message.now _ _ c.args.size c.requires c.marked.ensures c.counted.ensures

@@ -8,12 +8,11 @@ use Rattle.shape.proofs.accounts.account_ok.Goals as goal
 pub returns : goal.returns
 unfolding account_ok value
 returns c =
-    let n = c in
-    let a = n.args.a in
+    let a = c.args.a in
     rw (
-      n.name_ok.ensures,
+      c.name_ok.ensures,
       c.cap_ok.ensures,
       c.cap_ok-2.ensures,
-      n.units_above-above.ensures,
+      c.units_above-above.ensures,
       position-told a.position.units a.position.remainder,
     )

@@ -15,25 +15,21 @@ returns-then-h-gt32 c = rw (lt-leb c.args.h.count 32 c.if-h-gt32.true)
 pub returns-then-not-all_in_form : goal.returns-then-not-all_in_form
 unfolding accounts_ok
 returns-then-not-all_in_form c =
-    let f = c in
     rw (
-      le-leb f.args.h.count 32 f.if-h-gt32.false,
-      sym f.all_in_form.ensures ∙ not-true _ c.if-not-all_in_form.true,
+      le-leb c.args.h.count 32 c.if-h-gt32.false,
+      sym c.all_in_form.ensures ∙ not-true _ c.if-not-all_in_form.true-raw,
     )
 
 pub none_twice-requires : goal.none_twice-requires
 none_twice-requires c =
-    let f = c in
-    let s = f in
-    judged_named s.args.h ((let fact : length s.args.h.accounts ≡ 32 = search (rules, length_unmap) depth 8 in fact))
-    (record { few = f.if-h-gt32.false; each = sym f.all_in_form.ensures ∙ not-false _ c.if-not-all_in_form.false })
+    judged_named c.args.h ((let fact : length c.args.h.accounts ≡ 32 = search (rules, length_unmap) depth 8 in fact))
+    (record { few = c.if-h-gt32.false; each = sym c.all_in_form.ensures ∙ not-false _ c.if-not-all_in_form.false-raw })
 
 pub returns : goal.returns
 unfolding accounts_ok
 returns c =
-    let f = c in
     rw (
-      le-leb f.args.h.count 32 f.if-h-gt32.false,
-      sym f.all_in_form.ensures ∙ not-false _ c.if-not-all_in_form.false,
+      le-leb c.args.h.count 32 c.if-h-gt32.false,
+      sym c.all_in_form.ensures ∙ not-false _ c.if-not-all_in_form.false-raw,
     )
     c.none_twice.ensures

@@ -13,10 +13,8 @@ returns-then-n-gt32 c = rw (lt-leb c.args.n 32 c.if-n-gt32.true)
 
 pub returns-in-Fits : goal.returns-in-Fits
 returns-in-Fits c =
-    let r = c in
-    rw (le-leb _ 32 r.if-n-gt32.false, ← (let fact : r.read_name.result ≡ judge name_form (take r.args.n r.args.t1) = rw (← sub-zero r.args.n) r.read_name.ensures in fact), c.enum_told.given.1)
+    rw (le-leb _ 32 c.if-n-gt32.false, ← (let fact : c.read_name.result ≡ judge name_form (take c.args.n c.args.place) = rw (← sub-zero c.args.n) c.read_name.ensures in fact), c.in-Fits.is)
 
 pub returns-in-Stops : goal.returns-in-Stops
 returns-in-Stops c =
-    let r = c in
-    rw (le-leb _ 32 r.if-n-gt32.false, ← (let fact : r.read_name.result ≡ judge name_form (take r.args.n r.args.t1) = rw (← sub-zero r.args.n) r.read_name.ensures in fact), c.enum_told-in-Stops-1.given.1)
+    rw (le-leb _ 32 c.if-n-gt32.false, ← (let fact : c.read_name.result ≡ judge name_form (take c.args.n c.args.place) = rw (← sub-zero c.args.n) c.read_name.ensures in fact), c.in-Stops.is)

@@ -23,20 +23,17 @@ is_new-requires c = (omega arith, c.requires)
 
 pub returns-then-not-is_new : goal.returns-then-not-is_new
 returns-then-not-is_new c =
-    let n = c in
-    let h = n.args.h in
-    sym (none_fails (names_of h) n.loop-k.k ((let fact : n.loop-k.k < length (names_of n.args.h) = let s = n in omega (arith, length-names s.args.h ((let fact : length s.args.h.accounts ≡ 32 = search (rules, length_unmap) depth 8 in fact)) s.requires.few) in fact)) ((let fact : is_new (take n.loop-k.k (names_of n.args.h)) (get_or (names_of n.args.h) n.loop-k.k []) ≡ n.is_new.result = let s = n in rw (name_at s.args.h n.loop-k.k (omega arith)) (sym n.is_new.ensures) in fact) ∙ not-true _ c.if-not-is_new.true))
+    let h = c.args.h in
+    sym (none_fails (names_of h) c.loop-k.k ((let fact : c.loop-k.k < length (names_of c.args.h) = omega (arith, length-names c.args.h ((let fact : length c.args.h.accounts ≡ 32 = search (rules, length_unmap) depth 8 in fact)) c.requires.few) in fact)) ((let fact : is_new (take c.loop-k.k (names_of c.args.h)) (get_or (names_of c.args.h) c.loop-k.k []) ≡ c.is_new.result = rw (name_at c.args.h c.loop-k.k (omega arith)) (sym c.is_new.ensures) in fact) ∙ not-true _ c.if-not-is_new.true-raw))
 
 pub loop-k-preserved : goal.loop-k-preserved
 loop-k-preserved c =
-    let n = c in
-    let l = n.loop-k in
-    let h = n.args.h in
-    (omega arith, none_more (names_of h) l.k ((let fact : n.loop-k.k < length (names_of n.args.h) = let s = n in omega (arith, length-names s.args.h ((let fact : length s.args.h.accounts ≡ 32 = search (rules, length_unmap) depth 8 in fact)) s.requires.few) in fact)) ∙ rw (l.invariant.1, (let fact : is_new (take n.loop-k.k (names_of n.args.h)) (get_or (names_of n.args.h) n.loop-k.k []) ≡ n.is_new.result = let s = n in rw (name_at s.args.h n.loop-k.k (omega arith)) (sym n.is_new.ensures) in fact) ∙ not-false _ c.if-not-is_new.false))
+    let l = c.loop-k in
+    let h = c.args.h in
+    (omega arith, none_more (names_of h) l.k ((let fact : c.loop-k.k < length (names_of c.args.h) = omega (arith, length-names c.args.h ((let fact : length c.args.h.accounts ≡ 32 = search (rules, length_unmap) depth 8 in fact)) c.requires.few) in fact)) ∙ rw (l.invariant.1, (let fact : is_new (take c.loop-k.k (names_of c.args.h)) (get_or (names_of c.args.h) c.loop-k.k []) ≡ c.is_new.result = rw (name_at c.args.h c.loop-k.k (omega arith)) (sym c.is_new.ensures) in fact) ∙ not-false _ c.if-not-is_new.false-raw))
 
 pub returns : goal.returns
 returns c =
-    let s = c in
     let l = c.loop-k in
-    let whole = take_all l.k (names_of s.args.h) (omega (arith, length-names s.args.h ((let fact : length s.args.h.accounts ≡ 32 = search (rules, length_unmap) depth 8 in fact)) s.requires.few)) in
+    let whole = take_all l.k (names_of c.args.h) (omega (arith, length-names c.args.h ((let fact : length c.args.h.accounts ≡ 32 = search (rules, length_unmap) depth 8 in fact)) c.requires.few)) in
     sym (ap none_twice (sym whole) ∙ l.invariant.1)

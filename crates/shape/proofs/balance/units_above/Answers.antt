@@ -12,7 +12,6 @@ returns-then-units-lt0 c = sym (neg_split' c.args.p.units (rw ((let fact : to_z 
 
 pub returns : goal.returns
 returns c =
-    let t = c in
-    let z = t.args.p.units in
-    let some = rw ((let fact : to_z w64 (of_z w64 t.args.p.units) ≡ t.args.p.units = to_z-of_z (record { sfits = t.struct_told.given.0.1 }) in fact)) at c.if-units-lt0.false in
-    (rw ((let fact : to_z w64 (of_z w64 t.args.p.units) ≡ t.args.p.units = to_z-of_z (record { sfits = t.struct_told.given.0.1 }) in fact)) at c.unsigned.ensures) ∙ sym ((nonneg_split z some).1 ∙ nonneg_bits z some)
+    let z = c.args.p.units in
+    let some = rw ((let fact : to_z w64 (of_z w64 c.args.p.units) ≡ c.args.p.units = to_z-of_z (record { sfits = c.struct_told.given.0.1 }) in fact)) at c.if-units-lt0.false in
+    (rw ((let fact : to_z w64 (of_z w64 c.args.p.units) ≡ c.args.p.units = to_z-of_z (record { sfits = c.struct_told.given.0.1 }) in fact)) at c.unsigned.ensures) ∙ sym ((nonneg_split z some).1 ∙ nonneg_bits z some)

@@ -15,11 +15,10 @@ down c = dn c.args.p.units
 
 bits : (c : goal.After-unsigned) → (c.unsigned.result + down c ≡ 2 ^ 64) × (0 < down c) × (down c ≤ 2 ^ 63)
 bits c =
-    let t = c in
-    let z = t.args.p.units in
-    let e = rw ((let fact : to_z w64 (of_z w64 t.args.p.units) ≡ t.args.p.units = to_z-of_z (record { sfits = t.struct_told.given.0.1 }) in fact)) at c.unsigned.ensures in
-    let below = rw ((let fact : to_z w64 (of_z w64 t.args.p.units) ≡ t.args.p.units = to_z-of_z (record { sfits = t.struct_told.given.0.1 }) in fact)) at c.if-units-lt0.true in
-    let most = (mag_split z (2 ^ 63) t.struct_told.given.0.1).1 in
+    let z = c.args.p.units in
+    let e = rw ((let fact : to_z w64 (of_z w64 c.args.p.units) ≡ c.args.p.units = to_z-of_z (record { sfits = c.struct_told.given.0.1 }) in fact)) at c.unsigned.ensures in
+    let below = rw ((let fact : to_z w64 (of_z w64 c.args.p.units) ≡ c.args.p.units = to_z-of_z (record { sfits = c.struct_told.given.0.1 }) in fact)) at c.if-units-lt0.true in
+    let most = (mag_split z (2 ^ 63) c.struct_told.given.0.1).1 in
     rw e (bits_split z below most, (neg_split' z below).1, most)
 
 pub overflow_add-result : goal.overflow_add-result

@@ -23,17 +23,15 @@ loop-k-init c = (search rules, rw (eq-eqb c.args.finished c.args.finished refl))
 
 pub loop-k-preserved : goal.loop-k-preserved
 loop-k-preserved c =
-    let u = c in
-    let f = u in
-    let s = f.args in
-    let l = f.loop-k in
+    let s = c.args in
+    let l = c.loop-k in
     let rs = rows s.finished s.ended.now in
     let here = lent_row s.ended.now l.k ∙ sym (rows_at s.finished l.k s.ended.now [] (omega arith)) in (
       omega arith,
       rw (c.greater-most.ensures, c.last_wrong-wrong.ensures)
-          (finished_more s.accounts rs s.finished l.k l.wrong l.most u.units_of-units.result f.finished_ok-right.result
+          (finished_more s.accounts rs s.finished l.k l.wrong l.most c.units_of-units.result c.finished_ok-right.result
           (omega arith) (omega (arith, length-rows s.finished s.ended.now)) l.invariant.1
-          (f.finished_ok-right.ensures ∙ ap (closed_ok s.accounts) here) (u.units_of-units.ensures ∙ ap (num units_field) here)),
+          (c.finished_ok-right.ensures ∙ ap (closed_ok s.accounts) here) (c.units_of-units.ensures ∙ ap (num units_field) here)),
     )
 
 pub returns : goal.returns

@@ -11,15 +11,14 @@ use Rattle.shape.proofs.records.ended_ok.Goals as goal
 
 pub returns-then-not-all_finished : goal.returns-then-not-all_finished
 unfolding ended_book_ok
-returns-then-not-all_finished c = rw (sym c.all_finished.ensures ∙ not-true _ c.if-not-all_finished.true)
+returns-then-not-all_finished c = rw (sym c.all_finished.ensures ∙ not-true _ c.if-not-all_finished.true-raw)
 
 pub returns : goal.returns
 unfolding ended_book_ok
 returns c =
-    let t = c in
-    let s = t.args in
+    let s = c.args in
     let used = s.finished * 160 in
     let b = s.ended.now in
     let whole : take (length b - used) (drop used b) ≡ drop used b =
     take_all (length b - used) (drop used b) (simp length-drop (omega arith)) in
-    rw (sym t.all_finished.ensures ∙ not-false _ t.if-not-all_finished.false, ← whole) c.all_zero.ensures
+    rw (sym c.all_finished.ensures ∙ not-false _ c.if-not-all_finished.false-raw, ← whole) c.all_zero.ensures

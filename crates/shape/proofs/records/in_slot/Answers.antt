@@ -17,15 +17,13 @@ returns-then-part-eq0 c =
 
 pub returns-then-not-reserved_ok : goal.returns-then-not-reserved_ok
 returns-then-not-reserved_ok c =
-    let t = c in
-    let s = t.args in
+    let s = c.args in
     c.not_ok.ensures
-    ∙ in_wrong s.accounts s.part.now ((let fact : is_free t.args.part.now ≡ false = let r = t.args.part.now in rw (num_byte 16 r (omega arith)) (ne_eqb _ 0 t.if-part-eq0.false) in fact)) (sym t.reserved_ok_lem.ensures ∙ not-true _ c.if-not-reserved_ok.true)
+    ∙ in_wrong s.accounts s.part.now ((let fact : is_free c.args.part.now ≡ false = let r = c.args.part.now in rw (num_byte 16 r (omega arith)) (ne_eqb _ 0 c.if-part-eq0.false) in fact)) (sym c.reserved_ok.ensures ∙ not-true _ c.if-not-reserved_ok.true-raw)
 
 pub returns : goal.returns
 unfolding get
 returns c =
-    let t = c in
-    let s = t.args in
+    let s = c.args in
     rw (c.units_of-units.ensures, c.number-remainder.ensures.0)
-    (in_taken s.accounts s.part.now ((let fact : is_free t.args.part.now ≡ false = let r = t.args.part.now in rw (num_byte 16 r (omega arith)) (ne_eqb _ 0 t.if-part-eq0.false) in fact)) (sym t.reserved_ok_lem.ensures ∙ not-false _ c.if-not-reserved_ok.false))
+    (in_taken s.accounts s.part.now ((let fact : is_free c.args.part.now ≡ false = let r = c.args.part.now in rw (num_byte 16 r (omega arith)) (ne_eqb _ 0 c.if-part-eq0.false) in fact)) (sym c.reserved_ok.ensures ∙ not-false _ c.if-not-reserved_ok.false-raw))

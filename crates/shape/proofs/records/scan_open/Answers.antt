@@ -18,44 +18,39 @@ loop-k-init c = (search rules, count-start c.args.accounts (rows c.args.slots c.
 
 pub returns-then-not-slot : goal.returns-then-not-slot
 returns-then-not-slot c =
-    let t = c in
-    let s = t.args in
-    let k = t.loop-k.k in
+    let s = c.args in
+    let k = c.loop-k.k in
     let r = get_or (rows s.slots s.opened.now) k [] in (
-      c.not_ok.ensures ∙ book_wrong s.accounts (rows s.slots s.opened.now) k ((let fact : (let fact : ℕ = t.loop-k.k in fact) < length ((let fact : List Row = rows t.args.slots t.args.opened.now in fact)) = let s = t.args in omega (arith, length-rows s.slots s.opened.now) in fact))
-          (slot_wrong s.accounts r t.in_slot-slot.result ((let fact : t.in_slot-slot.result ≡ held_in_slot ((let fact : ℕ = t.args.accounts in fact)) (get_or ((let fact : List Row = rows t.args.slots t.args.opened.now in fact)) ((let fact : ℕ = t.loop-k.k in fact)) []) = let s = t.args in let k = (let fact : ℕ = t.loop-k.k in fact) in let w : k * 160 + 160 - k * 160 ≡ 160 = omega arith in t.in_slot-slot.ensures ∙ rw (w, rows_at s.slots k s.opened.now [] (omega arith)) in fact)) (not-true _ c.if-not-slot.true)),
+      c.not_ok.ensures ∙ book_wrong s.accounts (rows s.slots s.opened.now) k ((let fact : c.loop-k.k < length (rows c.args.slots c.args.opened.now) = let s = c.args in omega (arith, length-rows s.slots s.opened.now) in fact))
+          (slot_wrong s.accounts r c.in_slot-slot.result ((let fact : c.in_slot-slot.result ≡ held_in_slot (c.args.accounts) (get_or (rows c.args.slots c.args.opened.now) (c.loop-k.k) []) = let s = c.args in let k = c.loop-k.k in let w : k * 160 + 160 - k * 160 ≡ 160 = omega arith in c.in_slot-slot.ensures ∙ rw (w, rows_at s.slots k s.opened.now [] (omega arith)) in fact)) (not-true _ c.if-not-slot.true)),
       rw c.not_ok.ensures (omega arith),
       rw c.not_ok.ensures (omega arith),
     )
 
 pub overflow_add-taken : goal.overflow_add-taken
-overflow_add-taken c = omega (arith, ((let fact : InSlot ((let fact : ℕ = c.args.accounts in fact)) (get_or ((let fact : List Row = rows c.args.slots c.args.opened.now in fact)) ((let fact : ℕ = c.loop-k.k in fact)) []) c.in_slot-slot.result = let i = c in slot_right ((let fact : ℕ = i.args.accounts in fact)) (get_or ((let fact : List Row = rows i.args.slots i.args.opened.now in fact)) ((let fact : ℕ = i.loop-k.k in fact)) []) i.in_slot-slot.result ((let fact : i.in_slot-slot.result ≡ held_in_slot ((let fact : ℕ = i.args.accounts in fact)) (get_or ((let fact : List Row = rows i.args.slots i.args.opened.now in fact)) ((let fact : ℕ = i.loop-k.k in fact)) []) = let s = i.args in let k = (let fact : ℕ = i.loop-k.k in fact) in let w : k * 160 + 160 - k * 160 ≡ 160 = omega arith in i.in_slot-slot.ensures ∙ rw (w, rows_at s.slots k s.opened.now [] (omega arith)) in fact)) (not-false _ c.if-not-slot.false) in fact)).once)
+overflow_add-taken c = omega (arith, ((let fact : InSlot (c.args.accounts) (get_or (rows c.args.slots c.args.opened.now) (c.loop-k.k) []) c.in_slot-slot.result = slot_right (c.args.accounts) (get_or (rows c.args.slots c.args.opened.now) (c.loop-k.k) []) c.in_slot-slot.result ((let fact : c.in_slot-slot.result ≡ held_in_slot (c.args.accounts) (get_or (rows c.args.slots c.args.opened.now) (c.loop-k.k) []) = let s = c.args in let k = c.loop-k.k in let w : k * 160 + 160 - k * 160 ≡ 160 = omega arith in c.in_slot-slot.ensures ∙ rw (w, rows_at s.slots k s.opened.now [] (omega arith)) in fact)) (not-false _ c.if-not-slot.false) in fact)).once)
 
 pub overflow_add-units : goal.overflow_add-units
-overflow_add-units c = omega (arith, ((let fact : InSlot ((let fact : ℕ = c.args.accounts in fact)) (get_or ((let fact : List Row = rows c.args.slots c.args.opened.now in fact)) ((let fact : ℕ = c.loop-k.k in fact)) []) c.in_slot-slot.result = let i = c in slot_right ((let fact : ℕ = i.args.accounts in fact)) (get_or ((let fact : List Row = rows i.args.slots i.args.opened.now in fact)) ((let fact : ℕ = i.loop-k.k in fact)) []) i.in_slot-slot.result ((let fact : i.in_slot-slot.result ≡ held_in_slot ((let fact : ℕ = i.args.accounts in fact)) (get_or ((let fact : List Row = rows i.args.slots i.args.opened.now in fact)) ((let fact : ℕ = i.loop-k.k in fact)) []) = let s = i.args in let k = (let fact : ℕ = i.loop-k.k in fact) in let w : k * 160 + 160 - k * 160 ≡ 160 = omega arith in i.in_slot-slot.ensures ∙ rw (w, rows_at s.slots k s.opened.now [] (omega arith)) in fact)) (not-false _ c.if-not-slot.false) in fact)).less)
+overflow_add-units c = omega (arith, ((let fact : InSlot (c.args.accounts) (get_or (rows c.args.slots c.args.opened.now) (c.loop-k.k) []) c.in_slot-slot.result = slot_right (c.args.accounts) (get_or (rows c.args.slots c.args.opened.now) (c.loop-k.k) []) c.in_slot-slot.result ((let fact : c.in_slot-slot.result ≡ held_in_slot (c.args.accounts) (get_or (rows c.args.slots c.args.opened.now) (c.loop-k.k) []) = let s = c.args in let k = c.loop-k.k in let w : k * 160 + 160 - k * 160 ≡ 160 = omega arith in c.in_slot-slot.ensures ∙ rw (w, rows_at s.slots k s.opened.now [] (omega arith)) in fact)) (not-false _ c.if-not-slot.false) in fact)).less)
 
 pub overflow_add-remainder : goal.overflow_add-remainder
-overflow_add-remainder c = omega (arith, ((let fact : InSlot ((let fact : ℕ = c.args.accounts in fact)) (get_or ((let fact : List Row = rows c.args.slots c.args.opened.now in fact)) ((let fact : ℕ = c.loop-k.k in fact)) []) c.in_slot-slot.result = let i = c in slot_right ((let fact : ℕ = i.args.accounts in fact)) (get_or ((let fact : List Row = rows i.args.slots i.args.opened.now in fact)) ((let fact : ℕ = i.loop-k.k in fact)) []) i.in_slot-slot.result ((let fact : i.in_slot-slot.result ≡ held_in_slot ((let fact : ℕ = i.args.accounts in fact)) (get_or ((let fact : List Row = rows i.args.slots i.args.opened.now in fact)) ((let fact : ℕ = i.loop-k.k in fact)) []) = let s = i.args in let k = (let fact : ℕ = i.loop-k.k in fact) in let w : k * 160 + 160 - k * 160 ≡ 160 = omega arith in i.in_slot-slot.ensures ∙ rw (w, rows_at s.slots k s.opened.now [] (omega arith)) in fact)) (not-false _ c.if-not-slot.false) in fact)).small)
+overflow_add-remainder c = omega (arith, ((let fact : InSlot (c.args.accounts) (get_or (rows c.args.slots c.args.opened.now) (c.loop-k.k) []) c.in_slot-slot.result = slot_right (c.args.accounts) (get_or (rows c.args.slots c.args.opened.now) (c.loop-k.k) []) c.in_slot-slot.result ((let fact : c.in_slot-slot.result ≡ held_in_slot (c.args.accounts) (get_or (rows c.args.slots c.args.opened.now) (c.loop-k.k) []) = let s = c.args in let k = c.loop-k.k in let w : k * 160 + 160 - k * 160 ≡ 160 = omega arith in c.in_slot-slot.ensures ∙ rw (w, rows_at s.slots k s.opened.now [] (omega arith)) in fact)) (not-false _ c.if-not-slot.false) in fact)).small)
 
 pub returns-then-units-gt3200000000000000000 : goal.returns-then-units-gt3200000000000000000
 returns-then-units-gt3200000000000000000 c =
-    let e = c in
-    let i = e in
-    let l = i.loop-k in (
-      c.not_ok-then-units-gt3200000000000000000.ensures ∙ count_over ((let fact : ℕ = i.args.accounts in fact)) ((let fact : List Row = rows i.args.slots i.args.opened.now in fact)) l.k l.taken l.units l.remainder l.invariant.1
-          i.in_slot-slot.result ((let fact : (let fact : ℕ = i.loop-k.k in fact) < length ((let fact : List Row = rows i.args.slots i.args.opened.now in fact)) = let s = i.args in omega (arith, length-rows s.slots s.opened.now) in fact)) ((let fact : InSlot ((let fact : ℕ = e.args.accounts in fact)) (get_or ((let fact : List Row = rows e.args.slots e.args.opened.now in fact)) ((let fact : ℕ = e.loop-k.k in fact)) []) e.in_slot-slot.result = let i = e in slot_right ((let fact : ℕ = i.args.accounts in fact)) (get_or ((let fact : List Row = rows i.args.slots i.args.opened.now in fact)) ((let fact : ℕ = i.loop-k.k in fact)) []) i.in_slot-slot.result ((let fact : i.in_slot-slot.result ≡ held_in_slot ((let fact : ℕ = i.args.accounts in fact)) (get_or ((let fact : List Row = rows i.args.slots i.args.opened.now in fact)) ((let fact : ℕ = i.loop-k.k in fact)) []) = let s = i.args in let k = (let fact : ℕ = i.loop-k.k in fact) in let w : k * 160 + 160 - k * 160 ≡ 160 = omega arith in i.in_slot-slot.ensures ∙ rw (w, rows_at s.slots k s.opened.now [] (omega arith)) in fact)) (not-false _ e.if-not-slot.false) in fact)) c.if-units-gt3200000000000000000.true,
+    let l = c.loop-k in (
+      c.not_ok-then-units-gt3200000000000000000.ensures ∙ count_over (c.args.accounts) (rows c.args.slots c.args.opened.now) l.k l.taken l.units l.remainder l.invariant.1
+          c.in_slot-slot.result ((let fact : c.loop-k.k < length (rows c.args.slots c.args.opened.now) = let s = c.args in omega (arith, length-rows s.slots s.opened.now) in fact)) ((let fact : InSlot (c.args.accounts) (get_or (rows c.args.slots c.args.opened.now) (c.loop-k.k) []) c.in_slot-slot.result = slot_right (c.args.accounts) (get_or (rows c.args.slots c.args.opened.now) (c.loop-k.k) []) c.in_slot-slot.result ((let fact : c.in_slot-slot.result ≡ held_in_slot (c.args.accounts) (get_or (rows c.args.slots c.args.opened.now) (c.loop-k.k) []) = let s = c.args in let k = c.loop-k.k in let w : k * 160 + 160 - k * 160 ≡ 160 = omega arith in c.in_slot-slot.ensures ∙ rw (w, rows_at s.slots k s.opened.now [] (omega arith)) in fact)) (not-false _ c.if-not-slot.false) in fact)) c.if-units-gt3200000000000000000.true,
       rw c.not_ok-then-units-gt3200000000000000000.ensures (omega arith),
       rw c.not_ok-then-units-gt3200000000000000000.ensures (omega arith),
     )
 
 pub loop-k-preserved : goal.loop-k-preserved
 loop-k-preserved c =
-    let e = c in
-    let i = e in
-    let l = i.loop-k in (
+    let l = c.loop-k in (
       omega arith,
-      count-step ((let fact : ℕ = i.args.accounts in fact)) ((let fact : List Row = rows i.args.slots i.args.opened.now in fact)) l.k l.taken l.units l.remainder l.invariant.1
-          i.in_slot-slot.result ((let fact : (let fact : ℕ = i.loop-k.k in fact) < length ((let fact : List Row = rows i.args.slots i.args.opened.now in fact)) = let s = i.args in omega (arith, length-rows s.slots s.opened.now) in fact)) ((let fact : InSlot ((let fact : ℕ = e.args.accounts in fact)) (get_or ((let fact : List Row = rows e.args.slots e.args.opened.now in fact)) ((let fact : ℕ = e.loop-k.k in fact)) []) e.in_slot-slot.result = let i = e in slot_right ((let fact : ℕ = i.args.accounts in fact)) (get_or ((let fact : List Row = rows i.args.slots i.args.opened.now in fact)) ((let fact : ℕ = i.loop-k.k in fact)) []) i.in_slot-slot.result ((let fact : i.in_slot-slot.result ≡ held_in_slot ((let fact : ℕ = i.args.accounts in fact)) (get_or ((let fact : List Row = rows i.args.slots i.args.opened.now in fact)) ((let fact : ℕ = i.loop-k.k in fact)) []) = let s = i.args in let k = (let fact : ℕ = i.loop-k.k in fact) in let w : k * 160 + 160 - k * 160 ≡ 160 = omega arith in i.in_slot-slot.ensures ∙ rw (w, rows_at s.slots k s.opened.now [] (omega arith)) in fact)) (not-false _ e.if-not-slot.false) in fact)) c.if-units-gt3200000000000000000.false,
+      count-step (c.args.accounts) (rows c.args.slots c.args.opened.now) l.k l.taken l.units l.remainder l.invariant.1
+          c.in_slot-slot.result ((let fact : c.loop-k.k < length (rows c.args.slots c.args.opened.now) = let s = c.args in omega (arith, length-rows s.slots s.opened.now) in fact)) ((let fact : InSlot (c.args.accounts) (get_or (rows c.args.slots c.args.opened.now) (c.loop-k.k) []) c.in_slot-slot.result = slot_right (c.args.accounts) (get_or (rows c.args.slots c.args.opened.now) (c.loop-k.k) []) c.in_slot-slot.result ((let fact : c.in_slot-slot.result ≡ held_in_slot (c.args.accounts) (get_or (rows c.args.slots c.args.opened.now) (c.loop-k.k) []) = let s = c.args in let k = c.loop-k.k in let w : k * 160 + 160 - k * 160 ≡ 160 = omega arith in c.in_slot-slot.ensures ∙ rw (w, rows_at s.slots k s.opened.now [] (omega arith)) in fact)) (not-false _ c.if-not-slot.false) in fact)) c.if-units-gt3200000000000000000.false,
     )
 
 pub returns : goal.returns

@@ -9,24 +9,20 @@ use borrow.Author.Rules.{rules}
 use Rattle.vaikshurd.proofs.calls.open_refused.Goals as goal
 
 pub returns-then-not-fits : goal.returns-then-not-fits
-returns-then-not-fits c = rw (c.packed.ensures, (let fact : is_of currency_form c.args.currency.now ≡ c.fits2.result = sym (c.fits2.ensures ∙ ap fits c.read_currency.ensures) in fact) ∙ not-true _ c.if-not-fits.true)
+returns-then-not-fits c = rw (c.packed.ensures, (let fact : is_of currency_form c.args.currency.now ≡ c.fits.result = sym (c.fits.ensures ∙ ap fits c.read_currency.ensures) in fact) ∙ not-true _ c.if-not-fits.true-raw)
 
 pub returns-in-Value : goal.returns-in-Value
 returns-in-Value c =
-    let read = c in
-    let s = read in
     rw (
       c.packed-in-Value.ensures,
-      (let fact : is_of currency_form read.args.currency.now ≡ read.fits2.result = sym (read.fits2.ensures ∙ ap fits read.read_currency.ensures) in fact) ∙ not-false _ read.if-not-fits.false,
-      (instant_value s.args.time.now _ (sym read.read_datetime-read.ensures ∙ c.enum_told.given.1)).0,
+      (let fact : is_of currency_form c.args.currency.now ≡ c.fits.result = sym (c.fits.ensures ∙ ap fits c.read_currency.ensures) in fact) ∙ not-false _ c.if-not-fits.false-raw,
+      (instant_value c.args.time.now _ (sym c.read_datetime-read.ensures ∙ c.in-Value.is)).0,
     )
 
 pub returns-in-Refused : goal.returns-in-Refused
 returns-in-Refused c =
-    let read = c in
-    let s = read in
     rw (
       c.packed-in-Refused.ensures,
-      instant_refused s.args.time.now _ (sym read.read_datetime-read.ensures ∙ c.enum_told-in-Refused-1.given.1),
-      and-false (is_of currency_form s.args.currency.now),
+      instant_refused c.args.time.now _ (sym c.read_datetime-read.ensures ∙ c.in-Refused.is),
+      and-false (is_of currency_form c.args.currency.now),
     )

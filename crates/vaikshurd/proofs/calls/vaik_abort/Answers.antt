@@ -8,25 +8,19 @@ use Rattle.vaikshurd.proofs.calls.vaik_abort.Goals as goal
 
 pub returns-then-not-is_formed : goal.returns-then-not-is_formed
 returns-then-not-is_formed c =
-    let t = c in
     rw c.packed.ensures
-    (formless (t).args.head.now (t).args.opened.now (t).args.ended.now ((let fact : Book → Outcome = λ b. abort_step b (t).args.sender.now (t).args.id.now (t).args.code.now in fact))
-    _ t.is_formed.ensures c.if-not-is_formed.true)
+    (formless c.args.head.now c.args.opened.now c.args.ended.now (let fact : Book → Outcome = λ b. abort_step b c.args.sender.now c.args.id.now c.args.code.now in fact)
+    _ c.is_formed.ensures c.if-not-is_formed.true-raw)
 
 pub decode-h-requires : goal.decode-h-requires
-decode-h-requires c = formed_long _ _ c.is_formed.ensures c.if-not-is_formed.false
+decode-h-requires c = formed_long _ _ c.is_formed.ensures c.if-not-is_formed.false-raw
 
 pub done-requires : goal.done-requires
 done-requires c =
-    let e = c in
-    formed_long _ _ e.is_formed.ensures e.if-not-is_formed.false
+    formed_long _ _ c.is_formed.ensures c.if-not-is_formed.false-raw
 
 pub returns : goal.returns
 returns c =
-    let d = c in
-    let j = d in
-    let e = j in
-    let t = e in
-    stepped (t).args.head.now (t).args.opened.now (t).args.ended.now
-    _ j.decode-h.ensures j.abort-r.result d.done.ensures ((let fact : Book → Outcome = λ b. abort_step b (t).args.sender.now (t).args.id.now (t).args.code.now in fact))
-    _ t.is_formed.ensures e.if-not-is_formed.false j.abort-r.ensures
+    stepped c.args.head.now c.args.opened.now c.args.ended.now
+    _ c.decode-h.ensures c.abort-r.result c.done.ensures (let fact : Book → Outcome = λ b. abort_step b c.args.sender.now c.args.id.now c.args.code.now in fact)
+    _ c.is_formed.ensures c.if-not-is_formed.false-raw c.abort-r.ensures

@@ -5,15 +5,12 @@ use Rattle.vaikshurd.proofs.calls.vaik_open.Goals as goal
 
 pub returns-then-head-ne2080 : goal.returns-then-head-ne2080
 returns-then-head-ne2080 c =
-    let s = (c).args in
+    let s = c.args in
     rw c.open_refused.ensures
     (other_length_lem s.head.now s.opened.now s.ended.now s.currency.now s.time.now c.if-head-ne2080.true)
 
 pub returns : goal.returns
 returns c =
-    let d = c in
-    let j = d in
-    let e = j in
-    let s = (e).args in
-    opens s.head.now s.opened.now s.ended.now _ j.decode-h.ensures j.open_book-r.result
-    d.done.ensures s.currency.now s.time.now e.if-head-ne2080.false j.open_book-r.ensures
+    let s = c.args in
+    opens s.head.now s.opened.now s.ended.now _ c.decode-h.ensures c.open_book-r.result
+    c.done.ensures s.currency.now s.time.now c.if-head-ne2080.false c.open_book-r.ensures

@@ -8,28 +8,22 @@ use Rattle.vaikshurd.proofs.calls.vaik_time.Goals as goal
 
 pub returns-then-not-is_formed : goal.returns-then-not-is_formed
 returns-then-not-is_formed c =
-    let t = c in
-    let s = (t).args in (
+    let s = c.args in (
       rw c.packed.ensures
-          (formless s.head.now s.opened.now s.ended.now ((let fact : Book → Outcome = λ b. (time_step b (t).args.list.now (t).args.instant.now).outcome in fact)) _ t.is_formed.ensures c.if-not-is_formed.true),
+          (formless s.head.now s.opened.now s.ended.now ((let fact : Book → Outcome = λ b. (time_step b c.args.list.now c.args.instant.now).outcome in fact)) _ c.is_formed.ensures c.if-not-is_formed.true-raw),
       list_formless s.head.now s.opened.now s.ended.now s.list.now s.instant.now
-          _ t.is_formed.ensures c.if-not-is_formed.true,
+          _ c.is_formed.ensures c.if-not-is_formed.true-raw,
     )
 
 pub decode-h-requires : goal.decode-h-requires
-decode-h-requires c = formed_long _ _ c.is_formed.ensures c.if-not-is_formed.false
+decode-h-requires c = formed_long _ _ c.is_formed.ensures c.if-not-is_formed.false-raw
 
 pub done-requires : goal.done-requires
 done-requires c =
-    let e = c in
-    formed_long _ _ e.is_formed.ensures e.if-not-is_formed.false
+    formed_long _ _ c.is_formed.ensures c.if-not-is_formed.false-raw
 
 pub returns : goal.returns
 returns c =
-    let d = c in
-    let j = d in
-    let e = j in
-    let t = e in
-    let s = (t).args in
-    times s.head.now s.opened.now s.ended.now _ j.decode-h.ensures j.time-r.result
-    d.done.ensures s.list.now _ s.instant.now _ t.is_formed.ensures e.if-not-is_formed.false j.time-r.ensures
+    let s = c.args in
+    times s.head.now s.opened.now s.ended.now _ c.decode-h.ensures c.time-r.result
+    c.done.ensures s.list.now _ s.instant.now _ c.is_formed.ensures c.if-not-is_formed.false-raw c.time-r.ensures

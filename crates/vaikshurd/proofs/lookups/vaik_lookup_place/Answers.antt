@@ -13,20 +13,17 @@ decode-h-requires c = (formed_facts _ (sym c.is_formed.ensures ∙ c.if-is_forme
 
 pub place_word-requires : goal.place_word-requires
 place_word-requires c =
-    let d = c in
-    let s = (d).args in
-    place_low (book_of d.decode-h.result s.opened.now s.ended.now) s.id.now ((let fact : length d.decode-h.result.accounts ≡ 32 = search (rules, length_unmap) depth 8 in fact)) _ c.place.ensures
+    let s = c.args in
+    place_low (book_of c.decode-h.result s.opened.now s.ended.now) s.id.now ((let fact : length c.decode-h.result.accounts ≡ 32 = search (rules, length_unmap) depth 8 in fact)) _ c.place.ensures
 
 pub returns-then-is_formed : goal.returns-then-is_formed
 returns-then-is_formed c =
-    let d = c in
-    let t = d in
-    let s = (t).args in
+    let s = c.args in
     rw c.place_word.ensures
-    (place_found s.head.now s.opened.now s.ended.now s.id.now _ t.is_formed.ensures d.if-is_formed.true
-    _ d.decode-h.ensures _ c.place.ensures)
+    (place_found s.head.now s.opened.now s.ended.now s.id.now _ c.is_formed.ensures c.if-is_formed.true
+    _ c.decode-h.ensures _ c.place.ensures)
 
 pub returns : goal.returns
 returns c =
-    let s = (c).args in
+    let s = c.args in
     place_formless s.head.now s.opened.now s.ended.now s.id.now _ c.is_formed.ensures c.if-is_formed.false

@@ -9,21 +9,17 @@ use Rattle.vaikshurd.proofs.readers.hand_over.Goals as goal
 
 pub returns-then-not-fits : goal.returns-then-not-fits
 returns-then-not-fits c =
-    let f = c in
-    let s = (f).args in
+    let s = c.args in
     rw c.packed.ensures
-    (not_read s.verdict s.value.now s.out.now (sym f.fits2.ensures ∙ not-true _ c.if-not-fits.true))
+    (not_read s.verdict s.value.now s.out.now (sym c.fits.ensures ∙ not-true _ c.if-not-fits.true-raw))
 
 pub returns-then-out-value : goal.returns-then-out-value
 returns-then-out-value c =
-    let e = c in
-    let s = (e).args in
-    rw c.packed-then-out-value.ensures (no_room s.verdict s.value.now s.out.now ((let fact : fits (e).args.verdict ≡ true = sym e.fits2.ensures ∙ not-false _ e.if-not-fits.false in fact)) c.if-out-value.true)
+    let s = c.args in
+    rw c.packed-then-out-value.ensures (no_room s.verdict s.value.now s.out.now (let fact : fits c.args.verdict ≡ true = sym c.fits.ensures ∙ not-false _ c.if-not-fits.false-raw in fact) c.if-out-value.true)
 
 pub returns : goal.returns
 returns c =
-    let p = c in
-    let e = p in
-    let s = (e).args in
-    rw (c.packed-2.ensures, p.put.ensures)
-    (handed s.verdict s.value.now s.out.now ((let fact : fits (e).args.verdict ≡ true = sym e.fits2.ensures ∙ not-false _ e.if-not-fits.false in fact)) p.if-out-value.false)
+    let s = c.args in
+    rw (c.packed-2.ensures, c.put.ensures)
+    (handed s.verdict s.value.now s.out.now (let fact : fits c.args.verdict ≡ true = sym c.fits.ensures ∙ not-false _ c.if-not-fits.false-raw in fact) c.if-out-value.false)

@@ -5,9 +5,8 @@ use Rattle.vaikshurd.proofs.readers.vaik_read_amount.Goals as goal
 
 pub returns-in-Value : goal.returns-in-Value
 returns-in-Value c =
-    let read = c in
-    rw (c.packed.ensures, sym read.read_amount-read.ensures ∙ read.read.given.1)
+    rw (c.packed.ensures, sym c.read_amount-read.ensures ∙ c.in-Value.is)
 
 pub returns-in-Refused : goal.returns-in-Refused
 returns-in-Refused c =
-    rw (c.packed-in-Refused.ensures, sym c.read_amount-read.ensures ∙ c.enum_told.given.1)
+    rw (c.packed-in-Refused.ensures, sym c.read_amount-read.ensures ∙ c.in-Refused.is)

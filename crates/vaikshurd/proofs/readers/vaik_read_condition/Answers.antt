@@ -4,5 +4,4 @@ use Rattle.vaikshurd.proofs.readers.vaik_read_condition.Goals as goal
 
 pub returns : goal.returns
 returns c =
-    let h = c in
-    rw (← h.read_condition-read.ensures) h.hand_over.ensures
+    rw (← c.read_condition-read.ensures) c.hand_over.ensures

@@ -8,9 +8,8 @@ use Rattle.vaikshurd.proofs.readers.vaik_read_datetime.Goals as goal
 
 pub returns-in-Value : goal.returns-in-Value
 returns-in-Value c =
-    let read = c in
-    rw (c.packed.ensures, sym read.read_datetime-read.ensures ∙ read.read.given.1, to_z-of_z ((let fact : SFits w64 c.read.given.0.0 = search rules in fact)))
+    rw (c.packed.ensures, sym c.read_datetime-read.ensures ∙ c.in-Value.is, to_z-of_z (let fact : SFits w64 c.in-Value.t = search rules in fact))
 
 pub returns-in-Refused : goal.returns-in-Refused
 returns-in-Refused c =
-    rw (c.packed-in-Refused.ensures, sym c.read_datetime-read.ensures ∙ c.enum_told.given.1)
+    rw (c.packed-in-Refused.ensures, sym c.read_datetime-read.ensures ∙ c.in-Refused.is)

@@ -4,5 +4,4 @@ use Rattle.vaikshurd.proofs.readers.vaik_read_id.Goals as goal
 
 pub returns : goal.returns
 returns c =
-    let h = c in
-    rw (← h.read_id-read.ensures) h.hand_over.ensures
+    rw (← c.read_id-read.ensures) c.hand_over.ensures
