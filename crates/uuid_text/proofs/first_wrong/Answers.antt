@@ -17,4 +17,4 @@ loop-i-preserved c =
 pub returns : goal.returns
 returns c =
     let w = c.loop-i.invariant in
-    record { within = w.within; before = λ j h l. w j h (omega arith); wrong = w.wrong }
+    record { within = w.within; before = λ j h l. w.before j h (omega arith); wrong = w.wrong }

@@ -12,7 +12,7 @@ loop-i-init c = (search rules, refl, refl)
 pub loop-i-preserved : goal.loop-i-preserved
 loop-i-preserved c =
     let l = c.loop-i in
-    (search rules, simp length-set l.invariant.1, build-step _ l.sum l.i _ l.invariant.2 c.wrapping_add_u32.ensures (omega arith))
+    (search rules, simp length-set l.invariant.1, build-step _ l.sum l.i _ l.invariant.2 c.wrapping_add_u32.ensures.value (omega arith))
 
 pub returns : goal.returns
 unfolding sums
