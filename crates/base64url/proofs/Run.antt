@@ -130,7 +130,8 @@ module _ (l q : Re) (o : nullable q ≡ false) (p : is_none q ≡ false) where
   tail_pads : (n m c : ℕ) (cs : List ℕ) → deriv c l ≡ none → deriv c q ≡ empty →
       judge_from (tail l q (suc n)) m (c ∷ cs) ≡ judge_from (padded q n) (suc m) cs
   tail_pads zero m c cs e f = simp (e, f)
-  tail_pads (suc n) m c cs e f = simp (e, f, o, p, upto_none n c e)
+  tail_pads (suc zero) m c cs e f = simp (e, f, o, p)
+  tail_pads (suc (suc n)) m c cs e f = simp (e, f, o, p)
 
   tail_ends : (n : ℕ) → nullable (tail l q n) ≡ true
   tail_ends zero = refl
@@ -140,7 +141,8 @@ module _ (l q : Re) (o : nullable q ≡ false) (p : is_none q ≡ false) where
   tail_dead : (n c : ℕ) → deriv c l ≡ none → deriv c q ≡ none → alive (deriv c (tail l q n)) ≡ false
   tail_dead zero c e f = refl
   tail_dead (suc zero) c e f = simp (e, f)
-  tail_dead (suc (suc n)) c e f = simp (e, f, o, upto_none n c e)
+  tail_dead (suc (suc zero)) c e f = simp (e, f, o)
+  tail_dead (suc (suc (suc n))) c e f = simp (e, f, o)
 
 -- a packet's padding
 abbrev pad : Re

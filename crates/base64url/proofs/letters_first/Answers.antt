@@ -1,30 +1,30 @@
 -- `base64url::letters_first` meets its contract: the letters passed and those to come are the letters of the whole text.
-use mathlib.Core.Path.{◌≡◌, ap, ◌∙◌}
-use mathlib.Core.Logic.{⊎_elim}
-use Prim.Native.Nat.{ℕ, ◌-◌, ◌≤◌}
-use native.Mathlib.Omega.{arith}
-use lib.ListN.{length}
-use borrow.Author.Rules.{rules}
+use Rattle.std.proofs.Common.{rules, arith, ◌≡◌, ◌≤◌, ◌⊎◌, ap, ◌∙◌, inl, inr, length, ℕ, List}
 use Rattle.octets.proofs.Lists.{bytes}
 use Rattle.base64url.specs.Scan.{letters_first}
-use Rattle.base64url.proofs.Count.{Passed, count-capped, count-goes, count-stops, count_ends}
+use Rattle.base64url.proofs.Count.{count-capped, count-goes, count-stops, count_ends}
 use Rattle.base64url.proofs.letters_first.Goals as goal
+use Rattle.base64url.proofs.letters_first.Goals.{then-most-end, else-most-end}
 
-inside : (c : goal.Joined-most-end) → c.if-most-end.end ≤ length c.args.s.now
-inside c = ⊎_elim (λ w. omega arith) (λ w. omega arith) c.if-most-end.branch
-
-pub fours_first-i-requires : goal.fours_first-i-requires
-fours_first-i-requires c = (c.requires, inside c)
+-- where the count ends is the limit, or that of a text within the limit
+to_end : (n end : ℕ) (s : List ℕ) → (end ≡ n) ⊎ ((end ≡ length s) × (length s ≤ n)) → letters_first end s ≡ letters_first n s
+to_end n end s (inl e) = ap (λ (j : ℕ). letters_first j s) e
+to_end n end s (inr w) = ap (λ (j : ℕ). letters_first j s) w.0 ∙ count-capped n s w.1
 
 pub loop-i-init : goal.loop-i-init
-loop-i-init c = (c.fours_first-i.ensures.0, (let fact : c.if-most-end.end ≤ length c.args.s.now = ⊎_elim (λ w. omega arith) (λ w. omega arith) c.if-most-end.branch in fact), c.fours_first-i.ensures.1 ∙ (let fact : let a = c.args in letters_first c.if-most-end.end a.s.now ≡ letters_first a.most a.s.now = let n = c.args.most in let s = c.args.s.now in let counted : (k : ℕ) → c.if-most-end.end ≡ k → letters_first c.if-most-end.end s ≡ letters_first k s = λ k e. ap (λ (j : ℕ). letters_first j s) e in ⊎_elim (λ w. counted n (omega arith)) (λ w. counted (length s) (omega arith) ∙ count-capped n s (omega arith)) c.if-most-end.branch in fact))
+loop-i-init c = (
+  c.fours_first-i.ensures.0,
+  elim c.if-most-end.branch [ then-most-end w ↦ omega arith | else-most-end w ↦ omega arith ],
+  c.fours_first-i.ensures.1 ∙ to_end _ _ _
+  (elim c.if-most-end.branch [ then-most-end w ↦ inl w.end-is | else-most-end w ↦ inr (w.end-is, omega arith) ]),
+)
 
 pub returns-then-value_of-ge64 : goal.returns-then-value_of-ge64
 returns-then-value_of-ge64 c =
     let l = c.loop-i in
     let s = c.args.s.now in (
       count-stops _ s l.i _ l.invariant.2 (search rules) (search rules) (rw c.value_of.ensures at c.if-value_of-ge64.true),
-      bytes s (λ k. (c.shared_slice_known-1.given k).fits),
+      bytes s (λ k. (c.type_inv.s k).fits),
     )
 
 pub loop-i-preserved : goal.loop-i-preserved
@@ -41,5 +41,5 @@ returns c =
     let l = c.loop-i in
     let s = c.args.s.now in (
       count_ends _ s l.i _ l.invariant.2 (search rules),
-      bytes s (λ k. (c.shared_slice_known-1.given k).fits),
+      bytes s (λ k. (c.type_inv.s k).fits),
     )

@@ -1,14 +1,5 @@
 -- `base64url::read_groups` meets its contract: the bytes taken and those of the characters to come are the bytes of the whole text, and the
 -- characters to come are letters exactly if all are.
-  not_letters,
-  fitted,
-  group_missing,
-  group_letters,
-  group_taken,
-  last_missing,
-  last_letters,
-  last_taken,
-}
 use mathlib.Core.Path.{◌≡◌, refl}
 use mathlib.Core.List.{◌++◌, map}
 use Prim.Native.Nat.{ℕ, ◌-◌, ◌*◌, ◌≤◌}
@@ -20,7 +11,7 @@ use Rattle.octets.proofs.Lists.{bytes}
 use Rattle.base64url.specs.Letters.{value_of}
 use Rattle.base64url.specs.Condition.{bytes_of}
 use Rattle.base64url.proofs.Run.{all_letters}
-use Rattle.base64url.proofs.Read.{
+use Rattle.base64url.proofs.Read.{not_letters, fitted, group_missing, group_letters, group_taken, last_missing, last_letters, last_taken}
 use Rattle.base64url.proofs.read_groups.Goals as goal
 
 pub loop-k-init : goal.loop-k-init

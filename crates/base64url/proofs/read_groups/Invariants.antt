@@ -9,7 +9,7 @@ use Rattle.octets.proofs.Lists.{bytes}
 use Rattle.base64url.specs.Letters.{value_of}
 use Rattle.base64url.specs.Condition.{bytes_of}
 use Rattle.base64url.proofs.Run.{all_letters}
-use Rattle.base64url.proofs.Read.{
+use Rattle.base64url.proofs.Read.{not_letters, fitted, group_missing, group_letters, group_taken, last_missing, last_letters, last_taken}
 use Rattle.base64url.proofs.read_groups.Given as goal
 
 abbrev pub invariant-loop-k : goal.invariant-loop-k
