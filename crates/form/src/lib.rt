@@ -1,6 +1,7 @@
 // The published forms of the field texts, judged by tables: whether a text is of the form and, if not, at which byte no text of
 // the form goes on.
 #![tactic(auto)]
+
 mod tables;
 
 ghost use Rattle.std.specs.Prelude.{◌≡◌, get_or};

@@ -4,7 +4,7 @@ use mathlib.Core.Path.{◌≡◌, refl, ap, sym, ◌∙◌}
 use mathlib.Core.List.{List, [], ◌∷◌, ◌++◌}
 use native.Mathlib.Omega.{arith}
 use native.Mathlib.Numerals.{add-one}
-use lib.ListN.{length, get_or, set, take, drop, replicate, length-append, length-replicate}
+use lib.ListN.{length, get_or, set, take, drop, length-replicate}
 use lib.Seq.{sets, sets-eq, paste, paste-suc, take_all, set_at, drop-cons, append_snoc}
 use Rattle.octets.specs.Parts.{zeros}
 

@@ -1,5 +1,5 @@
 -- Searches, tests and sums over a list.
-use Rattle.std.specs.Prelude.{ℕ, suc, ◌+◌, List, [], ◌∷◌, Bool, true, false, cond, ◌&&◌}
+use Rattle.std.specs.Prelude.{ℕ, suc, ◌+◌, List, [], ◌∷◌, Bool, true, cond, ◌&&◌}
 use Rattle.std.proofs.Math.Option.{Option, none, some}
 
 module _ {A : Type 0} where

@@ -1,6 +1,7 @@
 // SHA-256 (FIPS 180-4) of a message of bytes. The promise cites specs/Sha256.antt, written section by section from the standard.
 // The whole blocks of the message are taken in where they lie; only the last one or two, with the padding, are made.
 #![tactic(auto)]
+
 ghost use Rattle.std.specs.Prelude.{◌≡◌};
 ghost use Rattle.sha256.specs.Sha256.{sha256};
 

@@ -1,5 +1,6 @@
 // The short field texts that are only judged, FSP name and currency, and the abort code with its value.
 #![tactic(auto)]
+
 ghost use Rattle.std.specs.Prelude.{◌≡◌, ◌-◌, ◌≤◌, ◌<◌, get_or};
 ghost use Rattle.form.specs.Regex.{judge};
 ghost use Rattle.form.specs.Listings.{name_form, currency_form};

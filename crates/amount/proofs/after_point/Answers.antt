@@ -1,10 +1,9 @@
 -- `amount::after_point` meets its contract: in each turn the rest of the text reads as all that stands after the point.
-use borrow.Author.Rules.{rules}
-use Prim.Native.Nat.{◌+◌, ◌-◌, ◌*◌, ◌/◌, ◌≤◌}
+use Prim.Native.Nat.{◌+◌, ◌-◌, ◌*◌, ◌/◌}
 use mathlib.Core.Path.{refl}
 use native.Mathlib.Omega.{arith}
 use native.Mathlib.Decide.{ℕ_discrete}
-use lib.ListN.{length, drop, get_or}
+use lib.ListN.{drop, get_or}
 use Rattle.amount.specs.Rest.{places_rest}
 use Rattle.amount.proofs.Turns.{Reading, reading_small, reading_full, reading_stop, reading_digit, reading_open, reading_end}
 use Rattle.amount.proofs.after_point.Goals as goal

@@ -1,11 +1,7 @@
-use borrow.Author.Rules.{rules}
-use Prim.Native.Nat.{◌+◌, ◌-◌, ◌*◌, ◌/◌, ◌≤◌}
-use mathlib.Core.Path.{refl}
-use native.Mathlib.Omega.{arith}
-use native.Mathlib.Decide.{ℕ_discrete}
-use lib.ListN.{length, drop, get_or}
+use Prim.Native.Nat.{◌-◌, ◌≤◌}
+use lib.ListN.{length, drop}
 use Rattle.amount.specs.Rest.{places_rest}
-use Rattle.amount.proofs.Turns.{Reading, reading_small, reading_full, reading_stop, reading_digit, reading_open, reading_end}
+use Rattle.amount.proofs.Turns.{Reading}
 use Rattle.amount.proofs.after_point.Given as goal
 
 abbrev pub invariant-loop-i : goal.invariant-loop-i

@@ -1,5 +1,4 @@
 -- `amount::after_whole` meets its contract: the steps of the form where no digit may come.
-use borrow.Author.Rules.{rules}
 use mathlib.Core.Path.{◌∙◌}
 use native.Mathlib.Omega.{arith}
 use Rattle.amount.proofs.Turns.{whole-end_at, whole_point_at, whole-other_at}

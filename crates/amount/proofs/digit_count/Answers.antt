@@ -1,6 +1,6 @@
 -- `amount::digit_count` meets its contract: in both loops the power is that of the count less one, and not above the number.
-use Prim.Native.Nat.{ℕ, ◌+◌, ◌-◌, ◌*◌, ◌^◌, ◌≤◌, ◌<◌}
-use mathlib.Core.Path.{◌≡◌, refl}
+use Prim.Native.Nat.{ℕ, ◌+◌, ◌*◌, ◌^◌, ◌≤◌, ◌<◌}
+use mathlib.Core.Path.{refl}
 use native.Mathlib.Omega.{arith}
 use Rattle.amount.proofs.Digits.{count_short, count-step, counted}
 use Rattle.amount.proofs.digit_count.Invariants.{Counting}

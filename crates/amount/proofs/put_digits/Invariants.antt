@@ -1,10 +1,8 @@
 use Prim.Native.Nat.{◌-◌, ◌≤◌}
-use mathlib.Core.Path.{◌≡◌, refl, ◌∙◌}
-use native.Mathlib.Omega.{arith}
-use lib.ListN.{length, length-set}
+use mathlib.Core.Path.{◌≡◌}
+use lib.ListN.{length}
 use lib.Seq.{sets}
 use Rattle.octets.specs.Decimal.{in_digits}
-use Rattle.amount.proofs.Digits.{fill_at, fill_none}
 use Rattle.amount.proofs.put_digits.Given as goal
 
 abbrev pub invariant-loop-k : goal.invariant-loop-k

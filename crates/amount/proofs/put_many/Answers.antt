@@ -1,5 +1,4 @@
 -- `amount::put_many` meets its contract: its tables pass the test at each number below 100.
-use borrow.Author.Rules.{rules}
 use native.Mathlib.Omega.{arith}
 use mathlib.Core.Path.{refl, ◌∙◌}
 use Rattle.amount.proofs.Digits.{tables, from_start}

@@ -1,10 +1,8 @@
 -- `amount::put_pairs` meets its contract: the stores to come make of the buffer what all stores make of the one lent.
-use Prim.Native.Nat.{◌-◌, ◌%◌, ◌≤◌}
-use mathlib.Core.Path.{◌≡◌, refl, ◌∙◌}
+use Prim.Native.Nat.{◌%◌}
+use mathlib.Core.Path.{refl, ◌∙◌}
 use native.Mathlib.Omega.{arith}
-use lib.ListN.{length, length-set}
-use lib.Seq.{sets}
-use Rattle.octets.specs.Decimal.{in_digits}
+use lib.ListN.{length-set}
 use Rattle.amount.proofs.Digits.{fill_pair, fill_last, fill_none}
 use Rattle.amount.proofs.put_pairs.Goals as goal
 

@@ -1,5 +1,4 @@
 -- `amount::put_text` meets its contract: the stores of its parts are the stores of the text.
-use borrow.Author.Rules.{rules}
 use native.Mathlib.Omega.{arith}
 use mathlib.Core.Path.{◌∙◌}
 use lib.ListN.{length-set}

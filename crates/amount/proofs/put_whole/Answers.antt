@@ -1,5 +1,4 @@
 -- `amount::put_whole` meets its contract: either way it is its callee's.
-use borrow.Author.Rules.{rules}
 use mathlib.Core.Path.{◌∙◌}
 use Rattle.amount.proofs.Digits.{from_start}
 use Rattle.amount.proofs.put_whole.Goals as goal

@@ -1,5 +1,4 @@
 -- `amount::read_amount` meets its contract: the first byte decides, and what comes after the whole part.
-use borrow.Author.Rules.{rules}
 use mathlib.Core.Path.{◌∙◌}
 use native.Mathlib.Omega.{arith}
 use Rattle.amount.proofs.Turns.{begin_nothing, begin_other}

@@ -1,5 +1,4 @@
 -- `amount::text_length` meets its contract: the point is there where places are.
-use borrow.Author.Rules.{rules}
 use Prim.Native.Nat.{ℕ}
 use native.Mathlib.Omega.{arith}
 use Rattle.amount.proofs.Digits.{length_none, length_some}

@@ -1,10 +1,10 @@
 -- `amount::trimmed` meets its contract: in each turn the places of the number are those of the remainder.
-use Prim.Native.Nat.{ℕ, ◌^◌, ◌≤◌, ◌<◌}
+use Prim.Native.Nat.{ℕ}
 use mathlib.Core.Path.{◌≡◌, refl, ap, ◌∙◌}
 use mathlib.Core.List.{List, ◌∷◌}
 use native.Mathlib.Omega.{arith}
 use borrow.Author.Tests.{eq-eqb, ne_eqb}
-use Rattle.amount.specs.Amount.{places, fraction_text}
+use Rattle.amount.specs.Amount.{fraction_text}
 use Rattle.amount.specs.Digits.{pointed}
 use Rattle.amount.proofs.Digits.{trim_step, full}
 use Rattle.amount.proofs.trimmed.Goals as goal

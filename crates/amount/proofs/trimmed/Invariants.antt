@@ -1,11 +1,6 @@
-use Prim.Native.Nat.{ℕ, ◌^◌, ◌≤◌, ◌<◌}
-use mathlib.Core.Path.{◌≡◌, refl, ap, ◌∙◌}
-use mathlib.Core.List.{List, ◌∷◌}
-use native.Mathlib.Omega.{arith}
-use borrow.Author.Tests.{eq-eqb, ne_eqb}
-use Rattle.amount.specs.Amount.{places, fraction_text}
-use Rattle.amount.specs.Digits.{pointed}
-use Rattle.amount.proofs.Digits.{trim_step, full}
+use Prim.Native.Nat.{◌^◌, ◌≤◌, ◌<◌}
+use mathlib.Core.Path.{◌≡◌}
+use Rattle.amount.specs.Amount.{places}
 use Rattle.amount.proofs.trimmed.Given as goal
 
 abbrev pub invariant-loop-number : goal.invariant-loop-number

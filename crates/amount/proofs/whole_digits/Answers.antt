@@ -1,11 +1,9 @@
 -- `amount::whole_digits` meets its contract: in each turn the rest of the text reads as the whole text does.
 use borrow.Author.Rules.{rules}
-use Prim.Native.Nat.{◌-◌, ◌^◌, ◌≤◌, ◌<◌}
-use mathlib.Core.Path.{◌≡◌, ◌∙◌}
+use Prim.Native.Nat.{◌-◌}
+use mathlib.Core.Path.{◌∙◌}
 use native.Mathlib.Omega.{arith}
-use lib.ListN.{drop, get_or}
-use Rattle.amount.specs.Amount.{read_amount}
-use Rattle.amount.specs.Rest.{whole_rest}
+use lib.ListN.{get_or}
 use Rattle.amount.proofs.Turns.{begin_zero, begin_digit, whole_at, whole_stop_at, whole_limit, grown, room}
 use Rattle.amount.proofs.whole_digits.Goals as goal
 

@@ -1,11 +1,8 @@
-use borrow.Author.Rules.{rules}
 use Prim.Native.Nat.{◌-◌, ◌^◌, ◌≤◌, ◌<◌}
-use mathlib.Core.Path.{◌≡◌, ◌∙◌}
-use native.Mathlib.Omega.{arith}
-use lib.ListN.{drop, get_or}
+use mathlib.Core.Path.{◌≡◌}
+use lib.ListN.{drop}
 use Rattle.amount.specs.Amount.{read_amount}
 use Rattle.amount.specs.Rest.{whole_rest}
-use Rattle.amount.proofs.Turns.{begin_zero, begin_digit, whole_at, whole_stop_at, whole_limit, grown, room}
 use Rattle.amount.proofs.whole_digits.Given as goal
 
 abbrev pub invariant-loop-i : goal.invariant-loop-i

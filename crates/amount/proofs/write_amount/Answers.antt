@@ -1,5 +1,4 @@
 -- `amount::write_amount` meets its contract, case by case.
-use borrow.Author.Rules.{rules}
 use mathlib.Core.Path.{refl}
 use native.Mathlib.Omega.{arith}
 use lib.ListN.{length}
@@ -15,7 +14,7 @@ returns-then-remainder-ge10000 c = let a = c.args in (large_remainder a.a (lengt
 pub returns-then-out-length : goal.returns-then-out-length
 returns-then-out-length c =
     let old = c.args.out.now in
-    (no_room (let fact : let f = c.trimmed-fraction.result in Measured c.args.a c.digit_count-whole.result f.count f.number c.text_length-length.result = let w = c.digit_count-whole in let f = c.trimmed-fraction in record { units_fit = omega arith; remainder_fits = omega arith; digits = w.ensures.1; fraction = f.ensures.1; sum = c.text_length-length.ensures f.result.number; } in fact) (length old) (omega arith), refl)
+    (no_room (let fact : let f = c.trimmed-fraction.result in Measured c.args.a c.digit_count-whole.result f.count f.number c.text_length-length.result = let w = c.digit_count-whole in let f = c.trimmed-fraction in record { units_fit = omega arith; remainder_fits = omega arith; digits = w.ensures.1; fraction = f.ensures.1; sum = c.text_length-length.ensures f.result.number } in fact) (length old) (omega arith), refl)
 
 pub put_text-requires : goal.put_text-requires
 put_text-requires c =
@@ -26,4 +25,4 @@ pub returns : goal.returns
 returns c =
     let p = c.put_text in
     let old = c.args.out.now in
-    written (let fact : let f = c.trimmed-fraction.result in Measured c.args.a c.digit_count-whole.result f.count f.number c.text_length-length.result = let w = c.digit_count-whole in let f = c.trimmed-fraction in record { units_fit = omega arith; remainder_fits = omega arith; digits = w.ensures.1; fraction = f.ensures.1; sum = c.text_length-length.ensures f.result.number; } in fact) old p.new.out (omega arith) p.ensures
+    written (let fact : let f = c.trimmed-fraction.result in Measured c.args.a c.digit_count-whole.result f.count f.number c.text_length-length.result = let w = c.digit_count-whole in let f = c.trimmed-fraction in record { units_fit = omega arith; remainder_fits = omega arith; digits = w.ensures.1; fraction = f.ensures.1; sum = c.text_length-length.ensures f.result.number } in fact) old p.new.out (omega arith) p.ensures

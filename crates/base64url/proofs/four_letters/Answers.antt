@@ -1,5 +1,4 @@
 -- `base64url::four_letters` meets its contract: a letter is a character whose value is below 64.
-use borrow.Author.Rules.{rules}
 use Rattle.base64url.proofs.Groups.{four_tests}
 use Rattle.base64url.proofs.four_letters.Goals as goal
 

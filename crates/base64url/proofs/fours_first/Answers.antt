@@ -1,9 +1,7 @@
 -- `base64url::fours_first` meets its contract: the letters passed and those to come are the letters to the end.
-use Prim.Native.Nat.{◌-◌, ◌≤◌}
 use borrow.Author.Rules.{rules}
 use borrow.Author.Tests.{not-false}
-use Rattle.base64url.specs.Scan.{letters_first}
-use Rattle.base64url.proofs.Count.{Passed, count_starts, count_four}
+use Rattle.base64url.proofs.Count.{count_starts, count_four}
 use Rattle.base64url.proofs.fours_first.Goals as goal
 
 pub loop-i-init : goal.loop-i-init

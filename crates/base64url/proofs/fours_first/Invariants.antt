@@ -1,8 +1,6 @@
 use Prim.Native.Nat.{◌-◌, ◌≤◌}
-use borrow.Author.Rules.{rules}
-use borrow.Author.Tests.{not-false}
 use Rattle.base64url.specs.Scan.{letters_first}
-use Rattle.base64url.proofs.Count.{Passed, count_starts, count_four}
+use Rattle.base64url.proofs.Count.{Passed}
 use Rattle.base64url.proofs.fours_first.Given as goal
 
 abbrev pub invariant-loop-i : goal.invariant-loop-i

@@ -16,7 +16,7 @@ loop-i-init c = (
   c.fours_first-i.ensures.0,
   elim c.if-most-end.branch [ then-most-end w ↦ omega arith | else-most-end w ↦ omega arith ],
   c.fours_first-i.ensures.1 ∙ to_end _ _ _
-  (elim c.if-most-end.branch [ then-most-end w ↦ inl w.end-is | else-most-end w ↦ inr (w.end-is, omega arith) ]),
+      (elim c.if-most-end.branch [ then-most-end w ↦ inl w.end-is | else-most-end w ↦ inr (w.end-is, omega arith) ]),
 )
 
 pub returns-then-value_of-ge64 : goal.returns-then-value_of-ge64

@@ -1,12 +1,7 @@
-use mathlib.Core.Path.{◌≡◌, ap, ◌∙◌}
-use mathlib.Core.Logic.{⊎_elim}
-use Prim.Native.Nat.{ℕ, ◌-◌, ◌≤◌}
-use native.Mathlib.Omega.{arith}
+use Prim.Native.Nat.{◌-◌, ◌≤◌}
 use lib.ListN.{length}
-use borrow.Author.Rules.{rules}
-use Rattle.octets.proofs.Lists.{bytes}
 use Rattle.base64url.specs.Scan.{letters_first}
-use Rattle.base64url.proofs.Count.{Passed, count-capped, count-goes, count-stops, count_ends}
+use Rattle.base64url.proofs.Count.{Passed}
 use Rattle.base64url.proofs.letters_first.Given as goal
 
 abbrev pub invariant-loop-i : goal.invariant-loop-i

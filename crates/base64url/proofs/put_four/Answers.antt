@@ -1,7 +1,6 @@
 -- `base64url::put_four` meets its contract: stores at neighbouring places, each of a letter.
 use native.Mathlib.Omega.{arith}
 use lib.ListN.{length-set}
-use borrow.Author.Rules.{rules}
 use Rattle.base64url.proofs.Stored.{four_stores}
 use Rattle.base64url.proofs.put_four.Goals as goal
 

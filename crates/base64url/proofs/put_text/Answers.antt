@@ -1,9 +1,9 @@
 -- `base64url::put_text` meets its contract: the letters written and the text of the bytes to come are the text of all bytes.
 use mathlib.Core.Path.{◌≡◌, refl, ap, ◌∙◌}
 use mathlib.Core.List.{List, [], ◌++◌}
-use Prim.Native.Nat.{ℕ, ◌-◌, ◌*◌, ◌≤◌}
+use Prim.Native.Nat.{ℕ, ◌≤◌}
 use native.Mathlib.Omega.{arith}
-use lib.ListN.{length, take, drop}
+use lib.ListN.{length}
 use lib.Seq.{length-sets}
 use borrow.Author.Rules.{rules}
 use Rattle.base64url.specs.Letters.{alphabet}

@@ -1,13 +1,8 @@
-use mathlib.Core.Path.{◌≡◌, refl, ap, ◌∙◌}
-use mathlib.Core.List.{List, [], ◌++◌}
-use Prim.Native.Nat.{ℕ, ◌-◌, ◌*◌, ◌≤◌}
-use native.Mathlib.Omega.{arith}
+use mathlib.Core.Path.{◌≡◌}
+use mathlib.Core.List.{◌++◌}
+use Prim.Native.Nat.{◌-◌, ◌*◌, ◌≤◌}
 use lib.ListN.{length, take, drop}
-use lib.Seq.{length-sets}
-use borrow.Author.Rules.{rules}
-use Rattle.base64url.specs.Letters.{alphabet}
 use Rattle.base64url.specs.Condition.{condition_text}
-use Rattle.base64url.proofs.Turns.{write_turn, write_kept, write_end}
 use Rattle.base64url.proofs.put_text.Given as goal
 
 abbrev pub invariant-loop-k : goal.invariant-loop-k

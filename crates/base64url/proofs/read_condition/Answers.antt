@@ -5,7 +5,6 @@ use Rattle.octets.specs.Build.{build}
 use Rattle.octets.proofs.Lists.{bytes}
 use Rattle.base64url.specs.Letters.{alphabet, place_from, value_of, reading_table}
 use Rattle.base64url.proofs.Read.{not_long}
-use borrow.Author.Rules.{rules}
 use Rattle.base64url.proofs.read_condition.Goals as goal
 
 pub refused-requires : goal.refused-requires

@@ -1,16 +1,15 @@
 -- `base64url::read_groups` meets its contract: the bytes taken and those of the characters to come are the bytes of the whole text, and the
 -- characters to come are letters exactly if all are.
 use mathlib.Core.Path.{◌≡◌, refl}
-use mathlib.Core.List.{◌++◌, map}
-use Prim.Native.Nat.{ℕ, ◌-◌, ◌*◌, ◌≤◌}
+use mathlib.Core.List.{map}
+use Prim.Native.Nat.{ℕ}
 use native.Mathlib.Omega.{arith}
-use lib.ListN.{length, take, drop, length-set}
+use lib.ListN.{length-set}
 use borrow.Author.Rules.{rules}
 use borrow.Author.Tests.{not-true, not-false}
 use Rattle.octets.proofs.Lists.{bytes}
 use Rattle.base64url.specs.Letters.{value_of}
 use Rattle.base64url.specs.Condition.{bytes_of}
-use Rattle.base64url.proofs.Run.{all_letters}
 use Rattle.base64url.proofs.Read.{not_letters, fitted, group_missing, group_letters, group_taken, last_missing, last_letters, last_taken}
 use Rattle.base64url.proofs.read_groups.Goals as goal
 

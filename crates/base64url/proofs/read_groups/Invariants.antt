@@ -1,15 +1,10 @@
-use mathlib.Core.Path.{◌≡◌, refl}
+use mathlib.Core.Path.{◌≡◌}
 use mathlib.Core.List.{◌++◌, map}
-use Prim.Native.Nat.{ℕ, ◌-◌, ◌*◌, ◌≤◌}
-use native.Mathlib.Omega.{arith}
-use lib.ListN.{length, take, drop, length-set}
-use borrow.Author.Rules.{rules}
-use borrow.Author.Tests.{not-true, not-false}
-use Rattle.octets.proofs.Lists.{bytes}
+use Prim.Native.Nat.{◌-◌, ◌*◌, ◌≤◌}
+use lib.ListN.{length, take, drop}
 use Rattle.base64url.specs.Letters.{value_of}
 use Rattle.base64url.specs.Condition.{bytes_of}
 use Rattle.base64url.proofs.Run.{all_letters}
-use Rattle.base64url.proofs.Read.{not_letters, fitted, group_missing, group_letters, group_taken, last_missing, last_letters, last_taken}
 use Rattle.base64url.proofs.read_groups.Given as goal
 
 abbrev pub invariant-loop-k : goal.invariant-loop-k

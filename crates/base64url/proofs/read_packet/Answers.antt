@@ -1,7 +1,6 @@
 -- `base64url::read_packet` meets its contract: the verdict is that of the count of letters, and of what follows them.
 use mathlib.Core.Path.{refl}
 use Rattle.octets.specs.Build.{build}
-use borrow.Author.Rules.{rules}
 use Rattle.base64url.specs.Letters.{alphabet, place_from, value_of, reading_table}
 use Rattle.base64url.proofs.Read.{no_letter, more_follows, nothing_follows}
 use Rattle.base64url.proofs.read_packet.Goals as goal

@@ -1,5 +1,4 @@
 -- `base64url::refused` meets its contract: the form stops after the letters that the text begins with.
-use borrow.Author.Rules.{rules}
 use Rattle.base64url.proofs.Read.{stopped}
 use Rattle.base64url.proofs.refused.Goals as goal
 

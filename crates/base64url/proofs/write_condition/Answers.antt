@@ -1,7 +1,6 @@
 -- `base64url::write_condition` meets its contract: each answer by the tests that led to it.
 use mathlib.Core.Path.{refl}
 use Rattle.base64url.proofs.Write.{not_32, no_room, room_enough}
-use borrow.Author.Rules.{rules}
 use Rattle.base64url.proofs.write_condition.Goals as goal
 
 pub returns-then-bytes-ne32 : goal.returns-then-bytes-ne32

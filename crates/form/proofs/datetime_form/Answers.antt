@@ -1,5 +1,4 @@
 -- `form::datetime_form` meets its contract: its table goes by the listing, by one computed test.
-use borrow.Author.Rules.{rules}
 use native.Mathlib.Decide.{ℕ_discrete}
 use Rattle.form.specs.Listings.{date_time_form}
 use Rattle.form.proofs.Same.{same}

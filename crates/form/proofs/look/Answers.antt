@@ -1,6 +1,5 @@
 -- `form::look` meets its contract: inside the table the entry is read, and past it nothing goes on.
 use native.Mathlib.Omega.{arith}
-use borrow.Author.Rules.{rules}
 use Rattle.form.proofs.Judged.{entry_in, entry_past}
 use Rattle.form.proofs.look.Goals as goal
 

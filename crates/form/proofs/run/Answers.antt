@@ -1,10 +1,7 @@
 -- `form::run` meets its contract: the verdict on the bytes to come is the verdict on the whole text.
-use mathlib.Core.Path.{◌≡◌}
-use Prim.Native.Nat.{ℕ, ◌-◌, ◌≤◌}
-use lib.ListN.{length, drop}
+use Prim.Native.Nat.{ℕ}
 use borrow.Author.Rules.{rules}
 use Rattle.octets.proofs.Lists.{bytes}
-use Rattle.form.specs.Machine.{machine}
 use Rattle.form.proofs.Judged.{stop_at, go_on, stop_end, fit-end}
 use Rattle.form.proofs.run.Goals as goal
 

@@ -1,10 +1,7 @@
 use mathlib.Core.Path.{◌≡◌}
-use Prim.Native.Nat.{ℕ, ◌-◌, ◌≤◌}
+use Prim.Native.Nat.{◌-◌, ◌≤◌}
 use lib.ListN.{length, drop}
-use borrow.Author.Rules.{rules}
-use Rattle.octets.proofs.Lists.{bytes}
 use Rattle.form.specs.Machine.{machine}
-use Rattle.form.proofs.Judged.{stop_at, go_on, stop_end, fit-end}
 use Rattle.form.proofs.run.Given as goal
 
 abbrev pub invariant-loop-i : goal.invariant-loop-i

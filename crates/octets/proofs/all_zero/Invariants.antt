@@ -1,12 +1,8 @@
 use Prim.Native.Nat.{◌-◌, ◌≤◌}
-use mathlib.Core.Path.{◌≡◌, refl, ap, ◌∙◌}
-use native.Mathlib.Omega.{arith}
+use mathlib.Core.Path.{◌≡◌}
 use lib.Dec.{eqb}
 use lib.ListN.{length, take}
-use lib.Seq.{take_all}
-use borrow.Author.Rules.{rules}
 use Rattle.octets.specs.Parts.{all_zero}
-use Rattle.octets.proofs.Equal.{zero_more}
 use Rattle.octets.proofs.all_zero.Given as goal
 
 abbrev pub invariant-loop-i : goal.invariant-loop-i

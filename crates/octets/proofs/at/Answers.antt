@@ -1,5 +1,4 @@
 -- `octets::at` meets its contract: an element of a slice of bytes is below 256, and past the end `get_or` gives the default.
-use borrow.Author.Rules.{rules}
 use native.Mathlib.Omega.{arith}
 use mathlib.Core.Path.{refl, sym}
 use lib.ListN.{get_or-eq_default}

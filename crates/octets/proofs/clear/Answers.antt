@@ -1,8 +1,7 @@
 -- `clear`: the loop's invariant is that zeros stand in front of what is left.
-use Prim.Native.Nat.{◌-◌, ◌≤◌}
 use mathlib.Core.Path.{◌≡◌, refl, ◌∙◌}
 use native.Mathlib.Omega.{arith}
-use mathlib.Core.List.{[], ◌++◌, append-nil}
+use mathlib.Core.List.{[], append-nil}
 use lib.ListN.{length, length-set, drop, drop_of_length-le}
 use borrow.Author.Rules.{rules}
 use Rattle.octets.specs.Parts.{zeros}

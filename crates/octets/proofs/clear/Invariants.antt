@@ -1,11 +1,8 @@
 use Prim.Native.Nat.{◌-◌, ◌≤◌}
-use mathlib.Core.Path.{◌≡◌, refl, ◌∙◌}
-use native.Mathlib.Omega.{arith}
-use mathlib.Core.List.{[], ◌++◌, append-nil}
-use lib.ListN.{length, length-set, drop, drop_of_length-le}
-use borrow.Author.Rules.{rules}
+use mathlib.Core.Path.{◌≡◌}
+use mathlib.Core.List.{◌++◌}
+use lib.ListN.{length, drop}
 use Rattle.octets.specs.Parts.{zeros}
-use Rattle.octets.proofs.Stores.{clear_step}
 use Rattle.octets.proofs.clear.Given as goal
 
 abbrev pub invariant-loop-i : goal.invariant-loop-i

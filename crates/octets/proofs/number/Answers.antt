@@ -1,11 +1,10 @@
 -- `number`: the loop's invariant is the number of the bytes so far, and its bound.
-use Prim.Native.Nat.{◌+◌, ◌-◌, ◌≤◌, ◌<◌, ◌^◌}
+use Prim.Native.Nat.{◌+◌, ◌<◌, ◌^◌}
 use mathlib.Core.Path.{◌≡◌, refl}
 use native.Mathlib.Omega.{arith}
 use lib.ListN.{get_or}
 use borrow.Author.Rules.{rules}
-use Rattle.octets.specs.Numbers.{number as number_in, number_from}
-use Rattle.octets.specs.Parts.{part}
+use Rattle.octets.specs.Numbers.{number_from}
 use Rattle.octets.proofs.Numbers.{number_more, number_room, number-grown}
 use Rattle.octets.proofs.number.Goals as goal
 

@@ -1,11 +1,7 @@
-use Prim.Native.Nat.{◌+◌, ◌-◌, ◌≤◌, ◌<◌, ◌^◌}
-use mathlib.Core.Path.{◌≡◌, refl}
-use native.Mathlib.Omega.{arith}
-use lib.ListN.{get_or}
-use borrow.Author.Rules.{rules}
-use Rattle.octets.specs.Numbers.{number as number_in, number_from}
+use Prim.Native.Nat.{◌-◌, ◌≤◌, ◌<◌, ◌^◌}
+use mathlib.Core.Path.{◌≡◌}
+use Rattle.octets.specs.Numbers.{number as number_in}
 use Rattle.octets.specs.Parts.{part}
-use Rattle.octets.proofs.Numbers.{number_more, number_room, number-grown}
 use Rattle.octets.proofs.number.Given as goal
 
 abbrev pub invariant-loop-i : goal.invariant-loop-i

@@ -1,9 +1,8 @@
 -- `put`: the loop's invariant is that the first i bytes are pasted, and the length is kept.
-use Prim.Native.Nat.{◌-◌, ◌≤◌}
-use mathlib.Core.Path.{◌≡◌, refl}
+use mathlib.Core.Path.{refl}
 use native.Mathlib.Omega.{arith}
-use lib.ListN.{length, length-set}
-use lib.Seq.{paste, paste-zero}
+use lib.ListN.{length-set}
+use lib.Seq.{paste-zero}
 use borrow.Author.Rules.{rules}
 use Rattle.octets.proofs.Stores.{paste-step, paste_all}
 use Rattle.octets.proofs.put.Goals as goal

@@ -1,9 +1,8 @@
 -- `put_number`: the loop's invariant is that the first i bytes are pasted, and the length is kept.
-use Prim.Native.Nat.{◌-◌, ◌≤◌}
-use mathlib.Core.Path.{◌≡◌, refl, sym}
+use mathlib.Core.Path.{refl, sym}
 use native.Mathlib.Omega.{arith}
-use lib.ListN.{length, length-set}
-use lib.Seq.{paste, paste-zero}
+use lib.ListN.{length-set}
+use lib.Seq.{paste-zero}
 use borrow.Author.Rules.{rules}
 use Rattle.octets.specs.Numbers.{big_endian}
 use Rattle.octets.proofs.Numbers.{length-big_endian, big_endian_at}

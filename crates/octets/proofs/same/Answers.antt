@@ -1,10 +1,7 @@
 -- `same`: the loop's invariant is that the whole answer is the answer on the rest.
-use Prim.Native.Nat.{◌-◌, ◌≤◌}
-use mathlib.Core.Path.{◌≡◌, refl, sym, ◌∙◌}
+use mathlib.Core.Path.{refl, sym, ◌∙◌}
 use native.Mathlib.Omega.{arith}
-use lib.ListN.{length, drop}
 use borrow.Author.Rules.{rules}
-use Rattle.octets.specs.Parts.{same as is_same}
 use Rattle.octets.proofs.Equal.{other_length_lem, same_differ, same_agree, same-done}
 use Rattle.octets.proofs.same.Goals as goal
 

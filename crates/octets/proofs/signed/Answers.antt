@@ -1,17 +1,17 @@
-use Prim.Native.Nat.{ℕ, suc, ◌+◌, ◌-◌, ◌≤◌, ◌<◌, ◌^◌}
+use Prim.Native.Nat.{ℕ, suc, ◌-◌, ◌<◌, ◌^◌}
 use mathlib.Core.Path.{◌≡◌, sym, ◌∙◌, ap}
 use native.Mathlib.Omega.{arith}
-use lib.IntN.{ℤ, pos, negsuc, ◌+ℤ◌, ◌-ℤ◌, neg_ℤ}
+use lib.IntN.{pos, negsuc, ◌-ℤ◌, neg_ℤ}
 use mir.Syntax.{w64}
-use mir.Val.{SFits, to_z, of_z}
+use mir.Val.{SFits, to_z}
 use mir.Facts.{to_z-of_z, to_z_pos, to_z-neg}
 use Rattle.octets.proofs.Integers.{same, sum_split, negate_split, fits_split}
-use borrow.Author.Rules.{rules}
 use Rattle.octets.proofs.signed.Goals as goal
 
 module _ (n : ℕ) (h : n < 2 ^ 63) where
   flipped : SFits w64 (pos 0 -ℤ pos n)
   flipped = fits_split (pos 0 -ℤ pos n) (omega (arith, sum_split (pos 0) (neg_ℤ (pos n)), negate_split (pos n))) (omega (arith, sum_split (pos 0) (neg_ℤ (pos n)), negate_split (pos n)))
+
   is : pos 0 -ℤ pos n -ℤ pos 1 ≡ negsuc n
   is = same (pos 0 -ℤ pos n -ℤ pos 1) (negsuc n) (omega (arith, sum_split (pos 0 -ℤ pos n) (neg_ℤ (pos 1)), sum_split (pos 0) (neg_ℤ (pos n)), negate_split (pos n)))
 

@@ -1,9 +1,9 @@
-use Prim.Native.Nat.{ℕ, ◌+◌, ◌-◌, ◌≤◌, ◌<◌, ◌^◌}
-use mathlib.Core.Path.{◌≡◌, sym, ◌∙◌}
+use Prim.Native.Nat.{◌-◌, ◌^◌}
+use mathlib.Core.Path.{◌≡◌}
 use mathlib.Core.Bool.{true, false}
 use native.Mathlib.Omega.{arith}
 use lib.IntN.{ℤ, pos, ◌+ℤ◌, ◌-ℤ◌, neg_ℤ, nat_abs}
-use lib.Signed.{lt_z, mag}
+use lib.Signed.{lt_z}
 use mir.Syntax.{w64}
 use mir.Val.{SFits, to_z, of_z}
 use mir.Facts.{to_z-of_z}
@@ -15,19 +15,23 @@ use Rattle.octets.proofs.unsigned.Goals as goal
 module _ (z : ℤ) (f : SFits w64 z) where
   back : to_z w64 (of_z w64 z) ≡ z
   back = to_z-of_z f
+
   module _ (t : lt_z z (pos 0) ≡ true) where
     more : SFits w64 (z +ℤ pos 1)
     more = fits_split (z +ℤ pos 1) (omega (arith, sum_split z (pos 1), mag_split z (2 ^ 63) f.sfits, neg_split' z t))
         (omega (arith, sum_split z (pos 1), mag_split z (2 ^ 63) f.sfits, neg_split' z t))
+
     flipped : SFits w64 (pos 0 -ℤ (z +ℤ pos 1))
     flipped =
         fits_split (pos 0 -ℤ (z +ℤ pos 1))
         (omega (arith, sum_split (pos 0) (neg_ℤ (z +ℤ pos 1)), negate_split (z +ℤ pos 1), sum_split z (pos 1), mag_split z (2 ^ 63) f.sfits, neg_split' z t))
         (omega (arith, sum_split (pos 0) (neg_ℤ (z +ℤ pos 1)), negate_split (z +ℤ pos 1), sum_split z (pos 1), mag_split z (2 ^ 63) f.sfits, neg_split' z t))
+
     sign : (lt_z (pos 0 -ℤ (z +ℤ pos 1)) (pos 0) ≡ false) × (up (pos 0 -ℤ (z +ℤ pos 1)) ≡ nat_abs (pos 0 -ℤ (z +ℤ pos 1)))
     sign =
         nonneg_known (pos 0 -ℤ (z +ℤ pos 1))
         (omega (arith, sum_split (pos 0) (neg_ℤ (z +ℤ pos 1)), negate_split (z +ℤ pos 1), sum_split z (pos 1), neg_split' z t))
+
     bits : 18446744073709551615 - nat_abs (pos 0 -ℤ (z +ℤ pos 1)) ≡ of_z w64 z
     bits = omega (arith, nonneg_split (pos 0 -ℤ (z +ℤ pos 1)) sign.0, sum_split (pos 0) (neg_ℤ (z +ℤ pos 1)), negate_split (z +ℤ pos 1), sum_split z (pos 1), mag_split z (2 ^ 63) f.sfits, neg_split' z t, bits_split z t (mag_split z (2 ^ 63) f.sfits).1, flipped.sfits)
 

@@ -1,7 +1,6 @@
 -- `tokens::read_code` meets its contract: a text of the form has its value at four places, and that is at most 9999.
 use mathlib.Core.Path.{sym, ◌∙◌}
 use native.Mathlib.Omega.{arith}
-use borrow.Author.Rules.{rules}
 use Rattle.tokens.proofs.FourDigits.{value, in_range, read, refusal}
 use Rattle.tokens.proofs.read_code.Goals as goal
 

@@ -1,11 +1,6 @@
 -- `tokens::read_name` meets its contract: the verdict on the bytes to come is the verdict on the whole text.
-use mathlib.Core.Path.{◌≡◌}
-use Prim.Native.Nat.{◌-◌, ◌≤◌}
-use lib.ListN.{length, drop}
 use borrow.Author.Rules.{rules}
-use Rattle.form.specs.Regex.{judge_from, judge}
-use Rattle.form.specs.Listings.{name_form}
-use Rattle.tokens.proofs.Name.{rest, too_long, too_low, too_high, next, none_at_all, some}
+use Rattle.tokens.proofs.Name.{too_long, too_low, too_high, next, none_at_all, some}
 use Rattle.tokens.proofs.read_name.Goals as goal
 
 pub returns-then-i-ge32 : goal.returns-then-i-ge32

@@ -1,10 +1,9 @@
 use mathlib.Core.Path.{◌≡◌}
 use Prim.Native.Nat.{◌-◌, ◌≤◌}
 use lib.ListN.{length, drop}
-use borrow.Author.Rules.{rules}
 use Rattle.form.specs.Regex.{judge_from, judge}
 use Rattle.form.specs.Listings.{name_form}
-use Rattle.tokens.proofs.Name.{rest, too_long, too_low, too_high, next, none_at_all, some}
+use Rattle.tokens.proofs.Name.{rest}
 use Rattle.tokens.proofs.read_name.Given as goal
 
 abbrev pub invariant-loop-i : goal.invariant-loop-i

@@ -1,11 +1,9 @@
 -- `tokens::row` meets its contract: the verdict on the bytes to come is the verdict on the whole text.
-use mathlib.Core.Path.{◌≡◌, refl, sym, ap, subst}
-use Prim.Native.Nat.{ℕ, ◌-◌, ◌≤◌, ◌<◌}
+use mathlib.Core.Path.{refl, sym, ap, subst}
+use Prim.Native.Nat.{ℕ, ◌≤◌, ◌<◌}
 use native.Mathlib.Numerals.{add-one}
-use lib.ListN.{length, get_or, drop}
-use Rattle.form.specs.Regex.{judge_from, judge}
-use Rattle.tokens.specs.Code.{row_form}
-use Rattle.tokens.proofs.RowOfBytes.{least_at, rest, within, under, over, started, too_long, outside, next, too_short, fits_here}
+use lib.ListN.{get_or}
+use Rattle.tokens.proofs.RowOfBytes.{least_at, within, under, over, started, too_long, outside, next, too_short, fits_here}
 use borrow.Author.Rules.{rules}
 use Rattle.tokens.proofs.row.Goals as goal
 

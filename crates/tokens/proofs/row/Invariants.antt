@@ -1,11 +1,9 @@
-use mathlib.Core.Path.{◌≡◌, refl, sym, ap, subst}
-use Prim.Native.Nat.{ℕ, ◌-◌, ◌≤◌, ◌<◌}
-use native.Mathlib.Numerals.{add-one}
-use lib.ListN.{length, get_or, drop}
+use mathlib.Core.Path.{◌≡◌}
+use Prim.Native.Nat.{◌-◌, ◌≤◌}
+use lib.ListN.{length, drop}
 use Rattle.form.specs.Regex.{judge_from, judge}
 use Rattle.tokens.specs.Code.{row_form}
-use Rattle.tokens.proofs.RowOfBytes.{least_at, rest, within, under, over, started, too_long, outside, next, too_short, fits_here}
-use borrow.Author.Rules.{rules}
+use Rattle.tokens.proofs.RowOfBytes.{least_at, rest}
 use Rattle.tokens.proofs.row.Given as goal
 
 abbrev pub invariant-loop-i : goal.invariant-loop-i

@@ -1,9 +1,9 @@
 -- `uuid_text::bytes_of` meets its contract: after k bytes the first k are those of the text.
-use mathlib.Core.Path.{◌≡◌, refl, ◌∙◌}
-use Prim.Native.Nat.{◌+◌, ◌-◌, ◌≤◌, ◌<◌}
+use mathlib.Core.Path.{refl, ◌∙◌}
+use Prim.Native.Nat.{◌+◌, ◌<◌}
 use native.Mathlib.Omega.{arith}
 use borrow.Author.Rules.{rules}
-use lib.ListN.{length, take, length-set}
+use lib.ListN.{length, length-set}
 use Rattle.octets.specs.Build.{build}
 use Rattle.octets.proofs.Built.{build-step, build-end}
 use Rattle.uuid_text.specs.Id.{byte_at, id_of}

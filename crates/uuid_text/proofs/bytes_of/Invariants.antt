@@ -1,12 +1,8 @@
-use mathlib.Core.Path.{◌≡◌, refl, ◌∙◌}
-use Prim.Native.Nat.{◌+◌, ◌-◌, ◌≤◌, ◌<◌}
-use native.Mathlib.Omega.{arith}
-use borrow.Author.Rules.{rules}
-use lib.ListN.{length, take, length-set}
+use mathlib.Core.Path.{◌≡◌}
+use Prim.Native.Nat.{◌-◌, ◌≤◌}
+use lib.ListN.{length, take}
 use Rattle.octets.specs.Build.{build}
-use Rattle.octets.proofs.Built.{build-step, build-end}
-use Rattle.uuid_text.specs.Id.{byte_at, id_of}
-use Rattle.uuid_text.proofs.Walk.{place_in, pair_is}
+use Rattle.uuid_text.specs.Id.{byte_at}
 use Rattle.uuid_text.proofs.bytes_of.Given as goal
 
 abbrev pub invariant-loop-k : goal.invariant-loop-k

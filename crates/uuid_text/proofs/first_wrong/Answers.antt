@@ -1,8 +1,5 @@
 -- `uuid_text::first_wrong` meets its contract: at the place i the walk is over the places before.
-use Prim.Native.Nat.{◌-◌}
 use native.Mathlib.Omega.{arith}
-use borrow.Author.Rules.{rules}
-use Rattle.uuid_text.specs.Row.{Walked}
 use Rattle.uuid_text.proofs.Walk.{begun, onward}
 use Rattle.uuid_text.proofs.first_wrong.Goals as goal
 

@@ -1,8 +1,5 @@
 use Prim.Native.Nat.{◌-◌}
-use native.Mathlib.Omega.{arith}
-use borrow.Author.Rules.{rules}
 use Rattle.uuid_text.specs.Row.{Walked}
-use Rattle.uuid_text.proofs.Walk.{begun, onward}
 use Rattle.uuid_text.proofs.first_wrong.Given as goal
 
 abbrev pub invariant-loop-i : goal.invariant-loop-i

@@ -4,7 +4,6 @@ use mathlib.Core.List.{List}
 use Prim.Native.Nat.{ℕ}
 use lib.ListN.{get_or}
 use Rattle.uuid_text.proofs.Spelled.{digit-is}
-use borrow.Author.Rules.{rules}
 use Rattle.uuid_text.proofs.hex_char.Goals as goal
 
 pub returns : goal.returns

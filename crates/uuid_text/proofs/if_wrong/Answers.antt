@@ -1,6 +1,5 @@
 -- `uuid_text::if_wrong` meets its contract, by its test.
 use mathlib.Core.Path.{sym, ◌∙◌}
-use borrow.Author.Rules.{rules}
 use Rattle.uuid_text.proofs.if_wrong.Goals as goal
 
 pub returns-then-may_stand : goal.returns-then-may_stand

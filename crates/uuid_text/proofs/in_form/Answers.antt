@@ -1,5 +1,4 @@
 -- `uuid_text::in_form` meets its contract: of 16 bytes the test is the definition's.
-use borrow.Author.Rules.{rules}
 use borrow.Author.Tests.{eq-eqb, ne_eqb}
 use lib.ListN.{length}
 use Rattle.uuid_text.proofs.in_form.Goals as goal

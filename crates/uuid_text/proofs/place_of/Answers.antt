@@ -1,5 +1,4 @@
 -- `uuid_text::place_of` meets its contract: its tests are the definition's.
-use borrow.Author.Rules.{rules}
 use borrow.Author.Tests.{lt-ltb, le-ltb}
 use Rattle.uuid_text.proofs.place_of.Goals as goal
 

@@ -2,7 +2,6 @@
 use native.Mathlib.Omega.{arith}
 use Rattle.uuid_text.specs.Groups.{dashed_pairs}
 use Rattle.uuid_text.proofs.Spelled.{behind, back_long}
-use borrow.Author.Rules.{rules}
 use Rattle.uuid_text.proofs.put_back.Goals as goal
 
 pub returns : goal.returns

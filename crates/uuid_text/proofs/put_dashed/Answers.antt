@@ -5,7 +5,6 @@ use native.Mathlib.Numerals.{add-one}
 use lib.ListN.{length, set, length-set}
 use lib.Seq.{sets, length-sets}
 use Rattle.uuid_text.specs.Groups.{pairs_of}
-use borrow.Author.Rules.{rules}
 use Rattle.uuid_text.proofs.put_dashed.Goals as goal
 
 pub shape_of-out : goal.shape_of-out

@@ -3,7 +3,6 @@ use native.Mathlib.Omega.{arith}
 use mathlib.Core.List.{◌++◌}
 use Rattle.uuid_text.specs.Groups.{pairs_of, dashed_pairs}
 use Rattle.uuid_text.proofs.Spelled.{behind, front_long}
-use borrow.Author.Rules.{rules}
 use Rattle.uuid_text.proofs.put_front.Goals as goal
 
 pub returns : goal.returns

@@ -1,12 +1,11 @@
 -- `uuid_text::put_pairs` meets its contract: the pairs so far are stored, one behind the other.
 use mathlib.Core.Path.{◌≡◌, refl, ap, ◌∙◌}
-use Prim.Native.Nat.{ℕ, ◌+◌, ◌-◌, ◌≤◌}
+use Prim.Native.Nat.{ℕ, ◌+◌}
 use native.Mathlib.Omega.{arith}
-use lib.ListN.{length, length-set}
+use lib.ListN.{length-set}
 use lib.Seq.{sets}
 use Rattle.uuid_text.specs.Groups.{pairs_of}
 use Rattle.uuid_text.proofs.Spelled.{pair_step}
-use borrow.Author.Rules.{rules}
 use Rattle.uuid_text.proofs.put_pairs.Goals as goal
 
 pub loop-j-init : goal.loop-j-init

@@ -1,11 +1,8 @@
-use mathlib.Core.Path.{◌≡◌, refl, ap, ◌∙◌}
-use Prim.Native.Nat.{ℕ, ◌+◌, ◌-◌, ◌≤◌}
-use native.Mathlib.Omega.{arith}
-use lib.ListN.{length, length-set}
+use mathlib.Core.Path.{◌≡◌}
+use Prim.Native.Nat.{◌-◌, ◌≤◌}
+use lib.ListN.{length}
 use lib.Seq.{sets}
 use Rattle.uuid_text.specs.Groups.{pairs_of}
-use Rattle.uuid_text.proofs.Spelled.{pair_step}
-use borrow.Author.Rules.{rules}
 use Rattle.uuid_text.proofs.put_pairs.Given as goal
 
 abbrev pub invariant-loop-j : goal.invariant-loop-j

@@ -7,7 +7,6 @@ use lib.ListN.{length}
 use lib.Seq.{sets, length-sets}
 use Rattle.uuid_text.specs.Groups.{hex_digits, front_text, back_text}
 use Rattle.uuid_text.proofs.Spelled.{behind, front_long, grouped}
-use borrow.Author.Rules.{rules}
 use Rattle.uuid_text.proofs.put_text.Goals as goal
 
 pub put_front-requires : goal.put_front-requires

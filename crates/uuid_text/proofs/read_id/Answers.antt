@@ -1,10 +1,8 @@
 -- `uuid_text::read_id` meets its contract: where the walk stopped is the verdict.
 use Prim.Native.Nat.{ℕ}
 use Rattle.octets.proofs.Lists.{bytes}
-use Rattle.octets.specs.Bytes.{Bytes}
 use Rattle.uuid_text.proofs.Walk.{goes_through, stops_there}
 use Rattle.uuid_text.proofs.Answers.{read_fits, read_stops}
-use borrow.Author.Rules.{rules}
 use Rattle.uuid_text.proofs.read_id.Goals as goal
 
 pub bytes_of-id-requires : goal.bytes_of-id-requires

@@ -1,6 +1,5 @@
 -- `uuid_text::stop_of` meets its contract: all places that the text and the form have are walked.
 use native.Mathlib.Omega.{arith}
-use borrow.Author.Rules.{rules}
 use Rattle.uuid_text.proofs.Walk.{joined, stopped}
 use Rattle.uuid_text.proofs.stop_of.Goals as goal
 

@@ -1,7 +1,6 @@
 -- `uuid_text::write_id` meets its contract, by its tests.
 use mathlib.Core.Path.{refl, sym, ◌∙◌}
 use lib.ListN.{length}
-use borrow.Author.Rules.{rules}
 use Rattle.uuid_text.proofs.Answers.{no_room, written, not_in_form, in_form_long, text_put}
 use Rattle.uuid_text.proofs.write_id.Goals as goal
 

@@ -1,5 +1,5 @@
 -- `sha256::digest::bytes_of` meets its contract. The loop's invariant: the first i words are written.
-use Rattle.std.proofs.Common.{◌≡◌, ◌-◌, ◌*◌, ◌≤◌, length, take, sym, refl, ◌∙◌, arith, take_all, rules}
+use Rattle.std.proofs.Common.{◌≡◌, ◌≤◌, length, sym, refl, ◌∙◌, arith, take_all, rules}
 use Rattle.sha256.specs.Sha256.{joined}
 use Rattle.sha256.proofs.Turns.{joined_step}
 use Rattle.sha256.proofs.digest.bytes_of.Goals as goal

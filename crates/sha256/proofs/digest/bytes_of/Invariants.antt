@@ -1,6 +1,5 @@
-use Rattle.std.proofs.Common.{◌≡◌, ◌-◌, ◌*◌, ◌≤◌, length, take, sym, refl, ◌∙◌, arith, take_all, rules}
+use Rattle.std.proofs.Common.{◌≡◌, ◌-◌, ◌*◌, ◌≤◌, length, take}
 use Rattle.sha256.specs.Sha256.{joined}
-use Rattle.sha256.proofs.Turns.{joined_step}
 use Rattle.sha256.proofs.digest.bytes_of.Given as goal
 
 abbrev pub invariant-loop-i : goal.invariant-loop-i

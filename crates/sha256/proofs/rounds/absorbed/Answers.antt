@@ -1,5 +1,5 @@
 -- `sha256::rounds::absorbed` meets its contract. The loop's invariant: i blocks are taken in.
-use Rattle.std.proofs.Common.{◌≡◌, ◌+◌, ◌-◌, ◌*◌, ◌/◌, ◌≤◌, length, refl, arith, rules}
+use Rattle.std.proofs.Common.{◌≡◌, ◌+◌, ◌-◌, ◌*◌, ◌/◌, length, refl, arith, rules}
 use Rattle.sha256.specs.Sha256.{absorb}
 use Rattle.sha256.proofs.Turns.{absorb-step}
 use Rattle.sha256.proofs.rounds.absorbed.Goals as goal

@@ -1,6 +1,5 @@
-use Rattle.std.proofs.Common.{◌≡◌, ◌+◌, ◌-◌, ◌*◌, ◌/◌, ◌≤◌, length, refl, arith, rules}
+use Rattle.std.proofs.Common.{◌≡◌, ◌-◌, ◌≤◌}
 use Rattle.sha256.specs.Sha256.{absorb}
-use Rattle.sha256.proofs.Turns.{absorb-step}
 use Rattle.sha256.proofs.rounds.absorbed.Given as goal
 
 abbrev pub invariant-loop-i : goal.invariant-loop-i

@@ -1,8 +1,8 @@
 -- `sha256::rounds::added` meets its contract. The loop's invariant: the first i sums are written.
-use Rattle.std.proofs.Common.{◌≡◌, ℕ, ◌-◌, ◌≤◌, length, get_or, take, refl, arith, length-set, rules}
+use Rattle.std.proofs.Common.{refl, arith, length-set, rules}
 use Rattle.octets.specs.Build.{build}
 use Rattle.octets.proofs.Built.{build-step, build-end}
-use Rattle.sha256.specs.Sha256.{◌⊞◌, sums}
+use Rattle.sha256.specs.Sha256.{sums}
 use Rattle.sha256.proofs.rounds.added.Goals as goal
 
 pub loop-i-init : goal.loop-i-init

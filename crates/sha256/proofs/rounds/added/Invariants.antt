@@ -1,7 +1,6 @@
-use Rattle.std.proofs.Common.{◌≡◌, ℕ, ◌-◌, ◌≤◌, length, get_or, take, refl, arith, length-set, rules}
+use Rattle.std.proofs.Common.{◌≡◌, ℕ, ◌-◌, ◌≤◌, length, get_or, take}
 use Rattle.octets.specs.Build.{build}
-use Rattle.octets.proofs.Built.{build-step, build-end}
-use Rattle.sha256.specs.Sha256.{◌⊞◌, sums}
+use Rattle.sha256.specs.Sha256.{◌⊞◌}
 use Rattle.sha256.proofs.rounds.added.Given as goal
 
 abbrev pub invariant-loop-i : goal.invariant-loop-i

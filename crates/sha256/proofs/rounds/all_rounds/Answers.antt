@@ -1,6 +1,6 @@
 -- `sha256::rounds::all_rounds` meets its contract. The loop's invariant: t rounds are done, t a multiple of 8, and of the schedule
 -- sixteen words more than that are there, as far as it goes.
-use Rattle.std.proofs.Common.{◌≡◌, ◌+◌, ◌-◌, ◌%◌, ◌≤◌, length, refl, arith, rules}
+use Rattle.std.proofs.Common.{◌≡◌, ◌+◌, refl, arith, rules}
 use Rattle.sha256.specs.Sha256.{rounds, schedule}
 use Rattle.sha256.specs.Parts.{There}
 use Rattle.sha256.proofs.Turns.{rounds-next, rounds-known}

@@ -1,7 +1,6 @@
-use Rattle.std.proofs.Common.{◌≡◌, ◌+◌, ◌-◌, ◌%◌, ◌≤◌, length, refl, arith, rules}
+use Rattle.std.proofs.Common.{◌≡◌, ◌+◌, ◌-◌, ◌%◌, ◌≤◌, length}
 use Rattle.sha256.specs.Sha256.{rounds, schedule}
 use Rattle.sha256.specs.Parts.{There}
-use Rattle.sha256.proofs.Turns.{rounds-next, rounds-known}
 use Rattle.sha256.proofs.rounds.all_rounds.Given as goal
 
 abbrev pub invariant-loop-t : goal.invariant-loop-t

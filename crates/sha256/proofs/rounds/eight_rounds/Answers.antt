@@ -1,6 +1,5 @@
 -- `sha256::rounds::eight_rounds` meets its contract: four times two rounds.
 use Rattle.sha256.proofs.Turns.{rounds_eight}
-use Rattle.std.proofs.Common.{rules}
 use Rattle.sha256.proofs.rounds.eight_rounds.Goals as goal
 
 pub returns : goal.returns

@@ -1,6 +1,5 @@
 -- `sha256::rounds::stepped` meets its contract: the definition is the code, with what the callees ensure.
 use Rattle.sha256.specs.Sha256.{step}
-use Rattle.std.proofs.Common.{rules}
 use Rattle.sha256.proofs.rounds.stepped.Goals as goal
 
 pub returns : goal.returns

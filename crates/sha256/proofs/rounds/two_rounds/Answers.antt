@@ -1,6 +1,5 @@
 -- `sha256::rounds::two_rounds` meets its contract: two rounds with the constants and the schedule at t and t + 1.
 use Rattle.sha256.proofs.Turns.{rounds-two}
-use Rattle.std.proofs.Common.{rules}
 use Rattle.sha256.proofs.rounds.two_rounds.Goals as goal
 
 pub returns : goal.returns

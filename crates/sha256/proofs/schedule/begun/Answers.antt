@@ -1,5 +1,5 @@
 -- `sha256::schedule::begun` meets its contract. The loop's invariant: the first t words are the schedule's.
-use Rattle.std.proofs.Common.{◌≡◌, ◌-◌, ◌≤◌, length, take, refl, arith, length-set, rules}
+use Rattle.std.proofs.Common.{◌≡◌, refl, arith, length-set, rules}
 use Rattle.sha256.specs.Sha256.{schedule}
 use Rattle.sha256.proofs.Turns.{first_word}
 use Rattle.sha256.proofs.schedule.begun.Goals as goal

@@ -1,6 +1,5 @@
-use Rattle.std.proofs.Common.{◌≡◌, ◌-◌, ◌≤◌, length, take, refl, arith, length-set, rules}
+use Rattle.std.proofs.Common.{◌≡◌, ◌-◌, ◌≤◌, length, take}
 use Rattle.sha256.specs.Sha256.{schedule}
-use Rattle.sha256.proofs.Turns.{first_word}
 use Rattle.sha256.proofs.schedule.begun.Given as goal
 
 abbrev pub invariant-loop-t : goal.invariant-loop-t

@@ -1,6 +1,5 @@
 -- `sha256::schedule::extend` meets its contract. The loop's invariant: of whichever block the first t words were, the first i are now.
-use Rattle.std.proofs.Common.{◌≡◌, ℕ, ◌-◌, ◌≤◌, List, length, take, arith, length-set, rules}
-use Rattle.sha256.specs.Sha256.{schedule}
+use Rattle.std.proofs.Common.{arith, length-set, rules}
 use Rattle.sha256.proofs.Turns.{later-word, extend_none, extend_end}
 use Rattle.sha256.proofs.schedule.extend.Goals as goal
 

@@ -1,6 +1,5 @@
-use Rattle.std.proofs.Common.{◌≡◌, ℕ, ◌-◌, ◌≤◌, List, length, take, arith, length-set, rules}
+use Rattle.std.proofs.Common.{◌≡◌, ℕ, ◌-◌, ◌≤◌, List, length, take}
 use Rattle.sha256.specs.Sha256.{schedule}
-use Rattle.sha256.proofs.Turns.{later-word, extend_none, extend_end}
 use Rattle.sha256.proofs.schedule.extend.Given as goal
 
 abbrev pub invariant-loop-i : goal.invariant-loop-i

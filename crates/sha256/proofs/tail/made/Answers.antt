@@ -1,6 +1,5 @@
 -- `sha256::tail::made` meets its contract: the rest, marked and counted, is what the padding appends.
 use Rattle.sha256.proofs.Padding.{end_made}
-use Rattle.std.proofs.Common.{rules}
 use Rattle.sha256.proofs.tail.made.Goals as goal
 
 pub returns : goal.returns

@@ -1,5 +1,5 @@
 -- `sha256::tail::marked` meets its contract. The loop's invariant: the first i bytes of the rest are copied, and zeros follow.
-use Rattle.std.proofs.Common.{◌≡◌, ◌-◌, ◌≤◌, ◌++◌, length, take, drop, refl, arith, length-set, rules}
+use Rattle.std.proofs.Common.{refl, arith, length-set, rules}
 use Rattle.octets.specs.Parts.{zeros}
 use Rattle.sha256.proofs.Padding.{copy_step, mark_step}
 use Rattle.sha256.proofs.tail.marked.Goals as goal

@@ -1,6 +1,5 @@
-use Rattle.std.proofs.Common.{◌≡◌, ◌-◌, ◌≤◌, ◌++◌, length, take, drop, refl, arith, length-set, rules}
+use Rattle.std.proofs.Common.{◌≡◌, ◌-◌, ◌≤◌, ◌++◌, length, take, drop}
 use Rattle.octets.specs.Parts.{zeros}
-use Rattle.sha256.proofs.Padding.{copy_step, mark_step}
 use Rattle.sha256.proofs.tail.marked.Given as goal
 
 abbrev pub invariant-loop-i : goal.invariant-loop-i
