@@ -9,4 +9,4 @@ use Rattle.record.proofs.expiration_of.Goals as goal
 
 pub returns : goal.returns
 unfolding get
-returns c = to_z-of_z (record { sfits = c.signed.type-inv }) ∙ c.signed.ensures ∙ ap (to_z w64) c.number.ensures.0
+returns c = to_z-of_z {w = w64} (record { sfits = c.signed.type_inv }) ∙ c.signed.ensures ∙ ap (to_z w64) c.number.ensures.0

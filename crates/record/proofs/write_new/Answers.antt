@@ -10,23 +10,23 @@ use borrow.Author.Rules.{rules}
 use Rattle.record.proofs.write_new.Goals as goal
 
 pub put_parties-requires : goal.put_parties-requires
-put_parties-requires c = (let fact : length c.args.part.now ≡ 160 = ap length c.requires ∙ length-zeros 160 in fact)
+put_parties-requires c = ap length c.requires ∙ length-zeros 160
 
 pub put_amount-requires : goal.put_amount-requires
-put_amount-requires c =
-    c.put_parties.auto.part ∙ (let fact : length c.args.part.now ≡ 160 = ap length c.requires ∙ length-zeros 160 in fact)
+put_amount-requires c = c.put_parties.auto.part ∙ ap length c.requires ∙ length-zeros 160
 
 pub put_hashes-requires : goal.put_hashes-requires
 put_hashes-requires c =
-    c.put_amount.auto.part ∙ c.put_parties.auto.part ∙ (let fact : length c.args.part.now ≡ 160 = ap length c.requires ∙ length-zeros 160 in fact)
+    c.put_amount.auto.part ∙ c.put_parties.auto.part ∙ ap length c.requires ∙ length-zeros 160
 
 pub returns : goal.returns
 unfolding new_row
 returns c =
+    let fits : SFits w64 c.args.c.expiration = search rules in
     rw (
       c.put_hashes.ensures,
       c.put_amount.ensures,
       c.put_parties.ensures,
       c.requires,
-      to_z-of_z (search rules),
+      to_z-of_z fits,
     )
