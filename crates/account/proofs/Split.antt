@@ -1,5 +1,5 @@
 -- Sums and differences of signed numbers as the code computes them, in 64 bits.
-use Prim.Native.Nat.{ℕ, ◌+◌, ◌<◌, ◌^◌}
+use Prim.Native.Nat.{ℕ, ◌<◌, ◌^◌}
 use mathlib.Core.Path.{◌≡◌, ◌∙◌}
 use native.Mathlib.Omega.{arith}
 use lib.IntN.{ℤ, pos, ◌+ℤ◌, ◌-ℤ◌}

@@ -1,5 +1,6 @@
 // The accounts and the head of a book, by value: positions that rise and fall, and the search for a name.
 #![tactic(auto)]
+
 ghost use Rattle.std.specs.Prelude.{◌≡◌, ◌≤◌, ◌<◌, length, take};
 ghost use Rattle.octets.specs.Parts.{same};
 ghost use Rattle.account.specs.Position.{raised_by, lowered_by, within, Room, InRange};

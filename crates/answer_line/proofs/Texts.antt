@@ -7,8 +7,8 @@ use native.Mathlib.Omega.{arith}
 use native.Mathlib.Nat.{pow-suc, add-zero}
 use native.Mathlib.Numerals.{add-one}
 use lib.Dec.{ltb}
-use lib.ListN.{length, take, drop, set, drop_of_length-le, length-append, length-take, length-drop, length-set}
-use lib.Seq.{sets, sets-eq, length-sets, take_all, drop-drop}
+use lib.ListN.{length, take, drop, set, drop_of_length-le, length-append, length-take, length-drop}
+use lib.Seq.{sets, sets-eq, take_all, drop-drop}
 use borrow.Author.Tests.{lt-ltb, le-ltb, lt-leb}
 use borrow.Rule.Slice.PartMut.{put_mid, mid_of}
 use Rattle.octets.proofs.Lists.{sets-append, sets-start}

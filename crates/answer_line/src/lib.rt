@@ -1,5 +1,6 @@
 // The printed answer to a line: number, code, mark, and the numbers of the list that a time shows, in decimal with single spaces.
 #![tactic(auto)]
+
 ghost use Rattle.std.specs.Prelude.{◌≡◌, ◌+◌, ◌*◌, ◌/◌, ◌≤◌, ◌<◌, min, ◌++◌, length, drop};
 ghost use Rattle.answer_line.specs.Text.{decimal_text, spaced, number_at, list_text, answer_text};
 ghost use Rattle.answer_line.specs.Inner.{Put};

@@ -5,8 +5,6 @@ use Rattle.std.proofs.Common.{to_z, of_z}
 use Rattle.octets.specs.Build.{build}
 use Rattle.octets.specs.Numbers.{number, big_endian}
 use Rattle.octets.specs.Parts.{part, zeros, all_zero}
-use Rattle.amount.specs.declared.Amount.{Amount}
-use Rattle.account.specs.declared.Position.{Position}
 use Rattle.account.specs.declared.Account.{Account}
 use Rattle.account.specs.declared.Head.{Head}
 

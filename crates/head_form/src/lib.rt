@@ -1,5 +1,6 @@
 // The head as bytes (docs/HEAD.md): whether a slice is of the form, its head, and the bytes of a head.
 #![tactic(auto)]
+
 ghost use Rattle.std.specs.Prelude.{◌≡◌, [], ◌∷◌, ◌+◌, ◌≤◌, ◌<◌, length};
 ghost use Rattle.std.proofs.lemmas.List.Edits.{sets};
 ghost use Rattle.std.specs.Int.{w64};

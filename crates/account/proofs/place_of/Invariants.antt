@@ -1,13 +1,8 @@
 use Prim.Native.Nat.{◌+◌, ◌-◌, ◌≤◌}
-use mathlib.Core.Path.{◌≡◌, sym, ◌∙◌}
-use native.Mathlib.Omega.{arith}
-use native.Mathlib.Nat.{zero-add}
-use borrow.Author.Rules.{rules}
-use lib.ListN.{length, drop, get_or, length-map}
-use lib.Seq.{length-take-le, get_or-take}
+use mathlib.Core.Path.{◌≡◌}
+use lib.ListN.{drop}
 use Rattle.octets.specs.Lists.{index}
-use Rattle.octets.proofs.Search.{index_hit, index_miss, index-done}
-use Rattle.account.specs.Head.{named, accounts_of, no_account}
+use Rattle.account.specs.Head.{named, accounts_of}
 use Rattle.account.proofs.place_of.Given as goal
 
 abbrev pub invariant-loop-k : goal.invariant-loop-k

@@ -1,11 +1,10 @@
 -- `same_name` compares byte by byte: the whole answer is the answer on what is left of both.
-use Prim.Native.Nat.{◌≤◌, ◌<◌, ◌-◌}
+use Prim.Native.Nat.{◌<◌}
 use mathlib.Core.Path.{◌≡◌, refl, sym, ◌∙◌}
 use native.Mathlib.Omega.{arith}
 use borrow.Author.Rules.{rules}
-use lib.ListN.{length, take, drop}
+use lib.ListN.{length, take}
 use lib.Seq.{length-take-le, get_or-take}
-use Rattle.octets.specs.Parts.{same}
 use Rattle.octets.proofs.Equal.{other_length_lem, same_differ, same_agree, same-done}
 use Rattle.account.proofs.same_name.Goals as goal
 

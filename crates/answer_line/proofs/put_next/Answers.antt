@@ -4,7 +4,6 @@ use mathlib.Core.Path.{ap, ◌∙◌}
 use lib.ListN.{length, length-set}
 use lib.Seq.{length-sets}
 use Rattle.answer_line.proofs.Texts.{put_more, byte_put}
-use borrow.Author.Rules.{rules}
 use Rattle.answer_line.proofs.put_next.Goals as goal
 
 pub put_number-requires : goal.put_number-requires

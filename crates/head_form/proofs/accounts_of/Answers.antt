@@ -1,9 +1,8 @@
 -- `accounts_of`: the loop's invariant is that the first k accounts are read.
-use Prim.Native.Nat.{◌-◌, ◌≤◌}
-use mathlib.Core.Path.{◌≡◌, refl, ap}
+use mathlib.Core.Path.{refl, ap}
 use mathlib.Core.List.{[], ◌∷◌}
 use native.Mathlib.Omega.{arith}
-use lib.ListN.{length, length-set, take}
+use lib.ListN.{length-set}
 use Rattle.octets.specs.Build.{build}
 use Rattle.octets.proofs.Built.{build-step, build-end}
 use Rattle.account.specs.declared.Account.{Account}

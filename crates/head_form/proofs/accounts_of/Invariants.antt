@@ -1,13 +1,8 @@
 use Prim.Native.Nat.{◌-◌, ◌≤◌}
-use mathlib.Core.Path.{◌≡◌, refl, ap}
-use mathlib.Core.List.{[], ◌∷◌}
-use native.Mathlib.Omega.{arith}
-use lib.ListN.{length, length-set, take}
+use mathlib.Core.Path.{◌≡◌}
+use lib.ListN.{length, take}
 use Rattle.octets.specs.Build.{build}
-use Rattle.octets.proofs.Built.{build-step, build-end}
-use Rattle.account.specs.declared.Account.{Account}
 use Rattle.head_form.specs.Form.{account_from, place_at}
-use borrow.Author.Rules.{rules}
 use Rattle.head_form.proofs.accounts_of.Given as goal
 
 abbrev pub invariant-loop-k : goal.invariant-loop-k

@@ -1,6 +1,5 @@
 -- `encode`: the front and the accounts behind it are the whole slice.
 use Rattle.head_form.proofs.Stores.{head_stored}
-use borrow.Author.Rules.{rules}
 use Rattle.head_form.proofs.encode.Goals as goal
 
 pub returns : goal.returns

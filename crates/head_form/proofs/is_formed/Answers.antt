@@ -1,7 +1,5 @@
 -- `is_formed`: the loop's invariant is the verdict on the first k account places.
-use Prim.Native.Nat.{◌-◌, ◌≤◌}
 use mathlib.Core.Path.{◌≡◌, sym, ◌∙◌}
-use mathlib.Core.Bool.{◌&&◌}
 use native.Mathlib.Omega.{arith}
 use borrow.Author.Tests.{eq-eqb, ne_eqb}
 use Rattle.octets.specs.Parts.{part, all_zero}
@@ -14,9 +12,6 @@ use Rattle.head_form.proofs.is_formed.Goals as goal
 pub returns-then-b-ne2080 : goal.returns-then-b-ne2080
 unfolding is_formed
 returns-then-b-ne2080 c = rw (ne_eqb _ _ c.if-b-ne2080.true)
-
-pub overflow_cast-count : goal.overflow_cast-count
-overflow_cast-count c = omega (arith, c.shared_slice_known-2-1.given 11)
 
 pub loop-k-init : goal.loop-k-init
 unfolding places_formed

@@ -1,13 +1,8 @@
 use Prim.Native.Nat.{◌-◌, ◌≤◌}
-use mathlib.Core.Path.{◌≡◌, sym, ◌∙◌}
+use mathlib.Core.Path.{◌≡◌}
 use mathlib.Core.Bool.{◌&&◌}
-use native.Mathlib.Omega.{arith}
-use borrow.Author.Tests.{eq-eqb, ne_eqb}
 use Rattle.octets.specs.Parts.{part, all_zero}
-use Rattle.octets.proofs.Tests.{and-true}
-use Rattle.head_form.specs.Form.{is_formed, places_formed}
-use Rattle.head_form.proofs.Fields.{places_more}
-use borrow.Author.Rules.{rules}
+use Rattle.head_form.specs.Form.{places_formed}
 use Rattle.head_form.proofs.is_formed.Given as goal
 
 abbrev pub invariant-loop-k : goal.invariant-loop-k

@@ -1,10 +1,8 @@
 -- `name_at`: the loop's invariant is that the first i bytes are copied.
-use Prim.Native.Nat.{◌-◌, ◌≤◌}
 use mathlib.Core.Path.{◌≡◌, refl, sym, ◌∙◌}
 use native.Mathlib.Omega.{arith}
-use lib.ListN.{length, length-set, take}
+use lib.ListN.{length-set}
 use lib.Seq.{take_all}
-use Rattle.octets.specs.Parts.{part}
 use Rattle.head_form.proofs.Fields.{copied_more}
 use borrow.Author.Rules.{rules}
 use Rattle.head_form.proofs.name_at.Goals as goal

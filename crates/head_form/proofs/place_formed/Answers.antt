@@ -6,11 +6,7 @@ use lib.ListN.{get_or}
 use borrow.Author.Tests.{le-leb, lt-leb}
 use Rattle.octets.specs.Parts.{all_zero}
 use Rattle.head_form.specs.Form.{place_formed, place_at}
-use borrow.Author.Rules.{rules}
 use Rattle.head_form.proofs.place_formed.Goals as goal
-
-pub overflow_cast-n : goal.overflow_cast-n
-overflow_cast-n c = omega (arith, c.shared_slice_known-2-1.given (place_at c.args.k + 52))
 
 pub returns-then-count-k : goal.returns-then-count-k
 unfolding place_formed

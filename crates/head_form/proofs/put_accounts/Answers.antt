@@ -1,9 +1,8 @@
 -- `put_accounts`: the loop's invariant is that the first k accounts are stored.
-use Prim.Native.Nat.{◌-◌, ◌*◌, ◌≤◌}
 use mathlib.Core.Path.{◌≡◌, refl, ap, ◌∙◌}
 use native.Mathlib.Omega.{arith}
-use lib.ListN.{length, length-map, take}
-use lib.Seq.{sets, length-sets, take_all}
+use lib.ListN.{length, take}
+use lib.Seq.{length-sets, take_all}
 use Rattle.head_form.specs.Form.{accounts_bytes}
 use Rattle.head_form.proofs.Stores.{accounts_more}
 use borrow.Author.Rules.{rules}
@@ -20,7 +19,7 @@ pub loop-k-preserved : goal.loop-k-preserved
 loop-k-preserved c =
     let l = c.loop-k in
     let more = accounts_more c.args.b.now l.b _ c.args.h.accounts 32 l.k l.invariant.1 l.invariant.2
-    c.put_account.ensures.0 c.put_account.ensures.1 (omega (arith, (let fact : length c.args.h.accounts ≡ 32 = simp length-map at c.well_formed.1.0.1.1.0.1.0.1 in fact))) in
+    c.put_account.ensures.0 c.put_account.ensures.1 (omega (arith, (let fact : length c.args.h.accounts ≡ 32 = search rules in fact))) in
     (search rules, more.0, more.1)
 
 pub shape_of-b : goal.shape_of-b
@@ -31,5 +30,5 @@ returns c =
     let l = c.loop-k in
     let accounts = c.args.h.accounts in
     let e : l.k ≡ 32 = omega arith in
-    let all : take l.k accounts ≡ accounts = take_all l.k accounts (omega (arith, (let fact : length c.args.h.accounts ≡ 32 = simp length-map at c.well_formed.1.0.1.1.0.1.0.1 in fact))) in
+    let all : take l.k accounts ≡ accounts = take_all l.k accounts (omega (arith, (let fact : length c.args.h.accounts ≡ 32 = search rules in fact))) in
     (rw (← all) l.invariant.1, rw (← all) (l.invariant.2 ∙ (rw e)))

@@ -1,11 +1,8 @@
 use Prim.Native.Nat.{◌-◌, ◌*◌, ◌≤◌}
-use mathlib.Core.Path.{◌≡◌, refl, ap, ◌∙◌}
-use native.Mathlib.Omega.{arith}
-use lib.ListN.{length, length-map, take}
-use lib.Seq.{sets, length-sets, take_all}
+use mathlib.Core.Path.{◌≡◌}
+use lib.ListN.{length, take}
+use lib.Seq.{sets}
 use Rattle.head_form.specs.Form.{accounts_bytes}
-use Rattle.head_form.proofs.Stores.{accounts_more}
-use borrow.Author.Rules.{rules}
 use Rattle.head_form.proofs.put_accounts.Given as goal
 
 abbrev pub invariant-loop-k : goal.invariant-loop-k

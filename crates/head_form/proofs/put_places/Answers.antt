@@ -1,6 +1,5 @@
 -- `put_places`: three stores of numbers, and zeros.
 use Rattle.octets.specs.Parts.{zeros}
-use borrow.Author.Rules.{rules}
 use Rattle.head_form.proofs.put_places.Goals as goal
 
 pub returns : goal.returns

@@ -4,7 +4,6 @@ use mathlib.Core.Path.{◌≡◌, ◌∙◌}
 use native.Mathlib.Omega.{arith}
 use lib.ListN.{length-set}
 use Rattle.octets.specs.Parts.{zeros}
-use borrow.Author.Rules.{rules}
 use Rattle.head_form.proofs.put_remainders.Goals as goal
 
 pub put-requires : goal.put-requires

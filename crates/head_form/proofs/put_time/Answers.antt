@@ -4,7 +4,6 @@ use native.Mathlib.Omega.{arith}
 use lib.ListN.{length, length-set}
 use mir.Facts.{to_z-of_z}
 use mir.Syntax.{w64}
-use mir.Val.{SFits}
 use borrow.Author.Rules.{rules}
 use Rattle.head_form.proofs.put_time.Goals as goal
 
@@ -21,5 +20,5 @@ returns c =
       c.put.ensures,
       c.put_number.ensures,
       c.unsigned.ensures,
-      to_z-of_z (search rules),
+      to_z-of_z {w = w64} {z = c.args.h.time} (search rules),
     )
