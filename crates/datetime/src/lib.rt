@@ -1,5 +1,6 @@
 // DateTime texts (001, listing 12): milliseconds from 1970-01-01T00:00:00.000Z read from a text, and written as one.
 #![tactic(auto)]
+
 mod calendar;
 mod reader;
 mod writer;

@@ -3,6 +3,7 @@ use mathlib.Core.Path.{◌≡◌, sym, ◌∙◌}
 use mathlib.Core.List.{List}
 use Prim.Native.Nat.{ℕ, ◌<◌}
 use mir.Facts.{to_z-of_z}
+use mir.Syntax.{w64}
 use lib.ListN.{get_or}
 use Rattle.octets.proofs.Lists.{bytes}
 use Rattle.form.specs.Regex.{judge}
@@ -23,10 +24,10 @@ instant-requires c = sym c.verdict-found.ensures ∙ c.in-Fits.is
 pub returns-in-Fits : goal.returns-in-Fits
 returns-in-Fits c = let s = c.args.s.now in
     let found = c.verdict-found in
-    read_value s _ (judged s _ (λ (k : ℕ). (c.shared_slice_known-1.given k).fits) found.ensures) c.in-Fits.is _
-    (to_z-of_z (record { sfits = c.instant.type-inv }) ∙ c.instant.ensures)
+    read_value s _ (judged s _ (λ (k : ℕ). (c.type_inv.s k).fits) found.ensures) c.in-Fits.is _
+    (to_z-of_z {w = w64} (record { sfits = c.instant.type_inv }) ∙ c.instant.ensures)
 
 pub returns-in-Stops : goal.returns-in-Stops
 returns-in-Stops c = let s = c.args.s.now in
     let found = c.verdict-found in
-    read-refused s _ (judged s _ (λ (k : ℕ). (c.shared_slice_known-1.given k).fits) found.ensures) _ c.in-Stops.is
+    read-refused s _ (judged s _ (λ (k : ℕ). (c.type_inv.s k).fits) found.ensures) _ c.in-Stops.is

@@ -19,9 +19,9 @@ judged f e t = sym (ap in_years (to_z-of_z f)) ∙ sym e ∙ t
 
 pub returns-then-out-lt24 : goal.returns-then-out-lt24
 returns-then-out-lt24 c = let at = c.in_years in (
-      no_room c.args.ms (length c.args.out.now) (judged c.ranges.ms at.ensures c.if-in_years.true) c.if-out-lt24.true,
-      refl,
-    )
+  no_room c.args.ms (length c.args.out.now) (judged c.ranges.ms at.ensures c.if-in_years.true) c.if-out-lt24.true,
+  refl,
+)
 
 pub text_of-text-requires : goal.text_of-text-requires
 text_of-text-requires c = sym c.in_years.ensures ∙ c.if-in_years.true

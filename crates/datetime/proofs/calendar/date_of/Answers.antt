@@ -18,7 +18,10 @@ month_of-month-requires c = let y = c.year_of-found in
     (c.leap-l.ensures ∙ sym (leap_halves y.result.century y.result.year (suc-le-suc y.ensures.2)))
 
 pub day_of-day-requires : goal.day_of-day-requires
-day_of-day-requires c = month-of-requires c
+day_of-day-requires c = let y = c.year_of-found in
+    within c.args.n (y.result.century * 100 + y.result.year) c.before_year.result c.requires.1 y.ensures.0
+    c.before_year.ensures.0 c.leap-l.result
+    (c.leap-l.ensures ∙ sym (leap_halves y.result.century y.result.year (suc-le-suc y.ensures.2)))
 
 pub returns : goal.returns
 returns c = let y = c.year_of-found in

@@ -10,9 +10,9 @@ use Rattle.datetime.proofs.calendar.day_number.Goals as goal
 
 pub returns : goal.returns
 returns c = let a = c.args in (
-      ap₂ (λ (x z : ℕ). x + z + (a.d - 1)) c.before_year.ensures.0
-          (c.before_month.ensures.0
-          ∙ ap (λ (l : Bool). before (month_days l) a.m) (c.leap.ensures ∙ sym (leap_halves a.c a.x (suc-le-suc
-          c.requires.1)))),
-      omega arith,
-    )
+  ap₂ (λ (x z : ℕ). x + z + (a.d - 1)) c.before_year.ensures.0
+      (c.before_month.ensures.0
+      ∙ ap (λ (l : Bool). before (month_days l) a.m) (c.leap.ensures ∙ sym (leap_halves a.c a.x (suc-le-suc
+      c.requires.1)))),
+  omega arith,
+)

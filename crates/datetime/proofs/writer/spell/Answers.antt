@@ -6,4 +6,4 @@ use Rattle.datetime.proofs.writer.spell.Goals as goal
 
 pub returns : goal.returns
 returns c = let d = c.args.date in
-    cc (utc_halves d.century d.year d.month d.day c.args.t (suc-le-suc c.pre.0) (suc-le-suc c.pre.1))
+    cc (utc_halves d.century d.year d.month d.day c.args.t (suc-le-suc c.requires.0) (suc-le-suc c.requires.1))
