@@ -1,43 +1,42 @@
 -- How a search for the next space comes to a line's pieces, one after the other.
 use Prim.Native.Nat.{ℕ, suc, ◌+◌, ◌-◌, ◌<◌, ◌≤◌}
 use mathlib.Core.Path.{◌≡◌, refl, ap, sym, ◌∙◌}
-use mathlib.Core.Bool.{Bool, true, false, cond, ◌&&◌}
+use mathlib.Core.Bool.{Bool, true, false, cond, not, ◌&&◌}
 use mathlib.Core.List.{List, [], ◌∷◌}
 use native.Mathlib.Omega.{arith}
 use native.Mathlib.Decide.{dec_lt}
 use lib.Dec.{eqb, leb}
 use lib.ListN.{length, take, drop, get_or, length-take, length-drop}
-use lib.Seq.{take_all, take-length, drop-drop}
+use lib.Seq.{take_all, drop-drop}
 use borrow.Author.Tests.{le-leb, lt-leb}
 use Rattle.octets.specs.Parts.{part}
 use Rattle.octets.proofs.Tests.{and-false}
-use Rattle.bytes.specs.Bytes.{index_of, index_after, slice}
-use Rattle.lines.specs.Lines.{grown, cut_at, pieces, most_words, well_built, words_of}
+use Rattle.lines.specs.Lines.{index_of, grown, cut_at, pieces, most_words, well_built, words_of}
 use Rattle.lines.proofs.Built.{full, built_full}
 
 -- a text without the byte is one piece
 one_piece : (b : ℕ) (s : List ℕ) → index_of b s ≡ length s → cut_at b s ≡ s ∷ []
-unfolding index_of cut_at index_after
+unfolding cut_at
 one_piece b [] e = refl
 one_piece b (c ∷ s) e = by (eqb c b) (one_piece b s) e
   where
-    by : (t : Bool) → (index_of b s ≡ length s → cut_at b s ≡ s ∷ []) → index_after t (index_of b s) ≡ suc (length s)
+    by : (t : Bool) → (index_of b s ≡ length s → cut_at b s ≡ s ∷ []) → cond (not t) (1 + index_of b s) 0 ≡ suc (length s)
         → cond t ([] ∷ cut_at b s) (grown c (cut_at b s)) ≡ (c ∷ s) ∷ []
     by true h e = absurd (omega (arith, e))
     by false h e = rw (h (omega (arith, e)))
 
 -- a text with the byte is the piece before the first, and the pieces of the rest
 first_piece : (b : ℕ) (s : List ℕ) → index_of b s < length s → cut_at b s ≡ take (index_of b s) s ∷ cut_at b (drop (suc (index_of b s)) s)
-unfolding index_of cut_at index_after
+unfolding cut_at
 first_piece b [] h = absurd (omega arith)
 first_piece b (c ∷ s) h = by (eqb c b) (first_piece b s) h
   where
     by : (t : Bool) → (index_of b s < length s → cut_at b s ≡ take (index_of b s) s ∷ cut_at b (drop (suc (index_of b s)) s))
-        → index_after t (index_of b s) < suc (length s)
+        → cond (not t) (1 + index_of b s) 0 < suc (length s)
         → cond t ([] ∷ cut_at b s) (grown c (cut_at b s))
-        ≡ take (index_after t (index_of b s)) (c ∷ s) ∷ cut_at b (drop (suc (index_after t (index_of b s))) (c ∷ s))
+        ≡ take (cond (not t) (1 + index_of b s) 0) (c ∷ s) ∷ cut_at b (drop (suc (cond (not t) (1 + index_of b s) 0)) (c ∷ s))
     by true i h = refl
-    by false i h = rw (i (omega arith))
+    by false i h = let one : 1 + index_of b s ≡ suc (index_of b s) = omega arith in rw (i (omega arith), one)
 
 pub some_pieces : (b : ℕ) (s : List ℕ) → 0 < length (cut_at b s)
 unfolding cut_at
@@ -54,10 +53,9 @@ full-cons [] ps h = absurd (omega arith)
 full-cons (c ∷ p) ps h = refl
 
 -- a search from `start` on: e is where the next byte b is, or the text's end
-module _ (b : ℕ) (s : List ℕ) (start e : ℕ) (within : start ≤ length s) (found : e ≡ start + index_of b (slice start (length s) s)) where
+module _ (b : ℕ) (s : List ℕ) (start e : ℕ) (within : start ≤ length s) (found : e ≡ start + index_of b (drop start s)) where
   at : index_of b (drop start s) ≡ e - start
-  unfolding slice
-  at = let f : e ≡ start + index_of b (drop start s) = found ∙ (rw take-length) in omega arith
+  at = omega (arith, found)
 
   pub cut_last : e ≡ length s → cut_at b (drop start s) ≡ part s start (e - start) ∷ []
   cut_last h =
@@ -109,7 +107,7 @@ module _ (s : List ℕ) (n start : ℕ) (k : Counted s n start) where
       let l : most_words < length (pieces s) = omega (arith, k.whole, some_pieces 32 (drop start s)) in
       sym (words_length s false (rw (lt-leb _ _ l) (and-false (full (pieces s)))))
 
-  module _ (e : ℕ) (found : e ≡ start + index_of 32 (slice start (length s) s)) where
+  module _ (e : ℕ) (found : e ≡ start + index_of 32 (drop start s)) where
     pub empty_piece : e ≡ start → 0 ≡ length (words_of s)
     empty_piece h =
         let z : e - start ≡ 0 = omega arith in
@@ -147,7 +145,7 @@ none_reached s k =
     let e : k ≡ k - 0 = omega arith in
     record { within = omega arith; few = omega arith; same = ap (λ (j : ℕ). get_or (pieces s) j []) e }
 
-module _ (s : List ℕ) (k i start : ℕ) (r : Reached s k i start) (e : ℕ) (found : e ≡ start + index_of 32 (slice start (length s) s)) where
+module _ (s : List ℕ) (k i start : ℕ) (r : Reached s k i start) (e : ℕ) (found : e ≡ start + index_of 32 (drop start s)) where
   pub no_piece : i < k → e ≡ length s → [] ≡ get_or (pieces s) k []
   no_piece l h =
       let m : k - i ≡ suc (k - i - 1) = omega arith in

@@ -1,7 +1,12 @@
 -- How a line is built (01, "A program over the library": "a word and its fields, single spaces, newline"). A line is its bytes without
 -- the newline.
 use Rattle.std.specs.Prelude.{ℕ, Bool, true, false, cond, not, ◌&&◌, ◌||◌, List, [], ◌∷◌, eqb, leb, length}
+use Rattle.std.specs.List.{position_or_len}
 use Prim.Native.Char.{code}
+
+-- where the first such byte of a text is; the text's length where it has none
+abbrev pub index_of : ℕ → List ℕ → ℕ
+index_of b s = position_or_len (λ c. eqb c b) s
 
 abbrev pub is_space : ℕ → Bool
 is_space c = eqb c (code " ")

@@ -1,6 +1,7 @@
 // Reads calls from standard input, a line each, and prints an answer line for each. The books are of 64 open and 100 finished records,
 // the list has 64 places, and a line has at most 33,000 bytes with its newline.
 #![tactic(auto)]
+
 ghost use Rattle.std.specs.Prelude.{◌≡◌, cond, [], ◌+◌, ◌-◌, ◌≤◌, length, take, drop};
 ghost use Rattle.octets.specs.Parts.{part};
 ghost use Rattle.book.specs.Step.{book_of};
@@ -9,7 +10,7 @@ ghost use Rattle.switch.specs.Switch.{answered, told_of, Ready, Served};
 ghost use Rattle.switch.specs.Input.{standing, waiting, through_lines, bounded, kept_of};
 
 use account::Head;
-use libc::{STDIN_FILENO, STDOUT_FILENO};
+use std::io::{Print, Read, Stdin, Stdout};
 
 // The head after a line, and the length of the answer's text.
 #[derive(Clone, Copy)]
@@ -65,14 +66,14 @@ fn tell(
 }
 
 // Writes out what the output holds, if that is more than so many bytes; how many are left.
-fn flush(out: &[u8], used: usize, most: usize) -> usize
+fn flush(stdout: Stdout, out: &[u8], used: usize, most: usize) -> usize
     requires { used ≤ length out.now }
     ensures { result ≤ most }
 {
     if used <= most {
         return used;
     }
-    io::write_all(STDOUT_FILENO, &out[0..used]);
+    let _ = Print::write_all(&stdout, &out[0..used]);
     0
 }
 
@@ -83,12 +84,12 @@ fn put_first(out: &mut [u8], used: usize, text: &[u8], count: usize)
 }
 
 // The first bytes of a text behind the output, which is written out where it may not hold another; how many are left.
-fn append(out: &mut [u8], used: usize, text: &[u8; 768], count: usize) -> usize
+fn append(stdout: Stdout, out: &mut [u8], used: usize, text: &[u8; 768], count: usize) -> usize
     requires { (count ≤ 768) × (used + count ≤ length out.old) }
     ensures { result ≤ 4096 }
 {
     put_first(out, used, text, count);
-    flush(out, used + count, 4096)
+    flush(stdout, out, used + count, 4096)
 }
 
 // The answer to a line goes behind the output.
@@ -99,6 +100,7 @@ fn serve(
     ended: &mut [u8],
     list: &mut [u8; 256],
     out: &mut [u8],
+    stdout: Stdout,
 ) -> State
     requires { Ready s out.old }
     ensures { Served (answered (book_of s.head opened.old ended.old) list.old line.now)
@@ -107,7 +109,7 @@ fn serve(
     let head = s.head;
     let mut text = [0u8; 768];
     let t = tell(head, line, opened, ended, list, &mut text);
-    let used = append(out, s.used, &text, t.length);
+    let used = append(stdout, out, s.used, &text, t.length);
     let next = t.head;
     State {
         head: next,
@@ -124,6 +126,7 @@ fn one_line(
     ended: &mut [u8],
     list: &mut [u8; 256],
     out: &mut [u8],
+    stdout: Stdout,
 ) -> State
     requires { Ready s out.old }
     ensures { Served (answered (book_of s.head opened.old ended.old) list.old
@@ -131,9 +134,9 @@ fn one_line(
         result opened.new ended.new list.new out.new }
 {
     if s.skips {
-        return serve(s, b"", opened, ended, list, out);
+        return serve(s, b"", opened, ended, list, out, stdout);
     }
-    serve(s, line, opened, ended, list, out)
+    serve(s, line, opened, ended, list, out, stdout)
 }
 
 // Every line of the text that has its newline.
@@ -144,6 +147,7 @@ fn each_line(
     ended: &mut [u8],
     list: &mut [u8; 256],
     out: &mut [u8],
+    stdout: Stdout,
 ) -> Rest
     requires { Ready s out.old }
     ensures { (result.at ≤ length text.now) × Ready result.state out.new
@@ -154,11 +158,11 @@ fn each_line(
     let mut state = s;
     let mut at = 0;
     while at < text.len() {
-        let end = bytes::scan::find(text, at, text.len(), b'\n');
+        let end = lines::find(text, at, b'\n');
         if end == text.len() {
             return Rest { state, at };
         }
-        let next = one_line(state, &text[at..end], opened, ended, list, out);
+        let next = one_line(state, &text[at..end], opened, ended, list, out, stdout);
         state = next;
         at = end + 1;
     }
@@ -166,7 +170,7 @@ fn each_line(
 }
 
 // All of the output is written out.
-fn written_out(s: State, out: &[u8]) -> State
+fn written_out(s: State, out: &[u8], stdout: Stdout) -> State
     requires { Ready s out.now }
     ensures { Ready result out.now × (result.head ≡ s.head) × (result.skips ≡ s.skips) }
 {
@@ -174,7 +178,7 @@ fn written_out(s: State, out: &[u8]) -> State
     let skips = s.skips;
     State {
         head,
-        used: flush(out, s.used, 0),
+        used: flush(stdout, out, s.used, 0),
         skips,
     }
 }
@@ -187,15 +191,16 @@ fn last_line(
     ended: &mut [u8],
     list: &mut [u8; 256],
     out: &mut [u8],
+    stdout: Stdout,
 ) -> State
     requires { Ready s out.old }
     ensures { Ready result out.new }
 {
     if s.skips | (0 < have) {
-        let next = serve(s, b"", opened, ended, list, out);
-        return written_out(next, out);
+        let next = serve(s, b"", opened, ended, list, out, stdout);
+        return written_out(next, out, stdout);
     }
-    written_out(s, out)
+    written_out(s, out, stdout)
 }
 
 // A buffer that is full and has no newline holds the start of a line that is too long: it is dropped, and its rest passed over.
@@ -236,13 +241,15 @@ fn shift(buf: &mut [u8], from: usize, to: usize)
     }
 }
 
-// How many bytes a read put into the buffer from a place on; 0 at the end of the input.
-fn read_more(buf: &mut [u8], have: usize) -> usize
+// How many bytes a read put into the buffer from a place on; 0 at the end of the input, and where the read failed.
+fn read_more(mut stdin: Stdin, buf: &mut [u8], have: usize) -> usize
     requires { have ≤ length buf.old }
     ensures { have + result ≤ length buf.new }
 {
-    let got = libc::read(STDIN_FILENO, &mut buf[have..]);
-    io::count(got, &buf[have..])
+    match stdin.read(&mut buf[have..]) {
+        Ok(count) => count,
+        Err(_) => 0,
+    }
 }
 
 // The lines that a read completed, and what is left of the buffer's first bytes.
@@ -254,6 +261,7 @@ fn answer_lines(
     ended: &mut [u8],
     list: &mut [u8; 256],
     out: &mut [u8],
+    stdout: Stdout,
 ) -> Window
     requires { (to ≤ length buf.old) × Ready s out.old }
     ensures { (result.have ≤ length buf.new) × Ready result.state out.new
@@ -262,11 +270,11 @@ fn answer_lines(
         (through_lines s.skips (standing s.head opened.old ended.old list.old)
         (cut_at 10 (take to buf.old)))) }
 {
-    let r = each_line(s, &buf[0..to], opened, ended, list, out);
+    let r = each_line(s, &buf[0..to], opened, ended, list, out, stdout);
     let at = r.at;
     let state = r.state;
     shift(buf, at, to);
-    kept(written_out(state, out), to - at, buf.len())
+    kept(written_out(state, out, stdout), to - at, buf.len())
 }
 
 // One read, and the lines that it completes.
@@ -277,25 +285,35 @@ fn turn(
     ended: &mut [u8],
     list: &mut [u8; 256],
     out: &mut [u8],
+    stdin: Stdin,
+    stdout: Stdout,
 ) -> Window
     requires { (w.have ≤ length buf.old) × Ready w.state out.old }
     ensures { (result.have ≤ length buf.new) × Ready result.state out.new }
 {
     let s = w.state;
     let have = w.have;
-    let got = read_more(buf, have);
+    let got = read_more(stdin, buf, have);
     if got == 0 {
         return Window {
-            state: last_line(s, have, opened, ended, list, out),
+            state: last_line(s, have, opened, ended, list, out, stdout),
             have: 0,
             more: false,
         };
     }
-    answer_lines(s, buf, have + got, opened, ended, list, out)
+    answer_lines(s, buf, have + got, opened, ended, list, out, stdout)
 }
 
 // Every read but the last takes a byte, and no input has as many as there are turns.
-fn run(buf: &mut [u8], opened: &mut [u8], ended: &mut [u8], list: &mut [u8; 256], out: &mut [u8])
+fn run(
+    buf: &mut [u8],
+    opened: &mut [u8],
+    ended: &mut [u8],
+    list: &mut [u8; 256],
+    out: &mut [u8],
+    stdin: Stdin,
+    stdout: Stdout,
+)
     requires { 8192 ≤ length out.old }
 {
     let mut w = Window {
@@ -309,7 +327,7 @@ fn run(buf: &mut [u8], opened: &mut [u8], ended: &mut [u8], list: &mut [u8; 256]
     };
     let mut turns = u64::MAX;
     while 0 < turns {
-        let next = turn(w, buf, opened, ended, list, out);
+        let next = turn(w, buf, opened, ended, list, out, stdin, stdout);
         if !next.more {
             return;
         }
@@ -318,11 +336,19 @@ fn run(buf: &mut [u8], opened: &mut [u8], ended: &mut [u8], list: &mut [u8; 256]
     }
 }
 
-fn main() {
+fn main(rt: HostRuntime) {
     let mut buf = [0u8; 33000];
     let mut opened = [0u8; 10240];
     let mut ended = [0u8; 16000];
     let mut list = [0u8; 256];
     let mut out = [0u8; 8192];
-    run(&mut buf, &mut opened, &mut ended, &mut list, &mut out);
+    run(
+        &mut buf,
+        &mut opened,
+        &mut ended,
+        &mut list,
+        &mut out,
+        rt.stdin(),
+        rt.stdout(),
+    );
 }
