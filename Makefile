@@ -1,14 +1,15 @@
 # Vaikshurd: the commands a reader, a user and the gate share. `make help` lists them.
-.PHONY: help demo vectors gateway test edits fuzz bench tables lib probe install clean
+.PHONY: help demo vectors gateway test edits fuzz bench tables lib probe switch install clean
 .DELETE_ON_ERROR:
 
 PREFIX ?= /usr/local
 SECONDS ?= 60
 
-# What the archives are proved and built from. VAIKSHURD_LIB_DIR and PROBE_LIB_DIR name the folder of one that is there already.
-SOURCES := crates.txt $(shell find crates -name '*.rt' -o -name '*.antt')
-VAIKSHURD := $(or $(VAIKSHURD_LIB_DIR),target/staticlib)/libvaikshurd.a
-PROBE := $(or $(PROBE_LIB_DIR),target/staticlib)/libprobe.a
+# What the archives and the line program are proved and built from. VAIKSHURD_LIB_DIR and PROBE_LIB_DIR name the folder of an archive that is
+# there already.
+SOURCES := crates.txt $(shell find crates -name out -prune -o \( -name '*.rt' -o -name '*.antt' \) -print)
+VAIKSHURD := $(or $(VAIKSHURD_LIB_DIR),crates/vaikshurd/out)/libvaikshurd.a
+PROBE := $(or $(PROBE_LIB_DIR),crates/probe/out)/libprobe.a
 
 help:
 	@echo 'make demo     prove the book, run the line program on the example and a gateway in C'
@@ -19,14 +20,13 @@ help:
 	@echo 'make fuzz     random histories against the second implementation; SECONDS=n (60), SEED=text to have the same again'
 	@echo 'make bench    ours beside plain C, OpenSSL, the second implementation and SQLite, as ratios in one run'
 	@echo 'make tables   write the tables of crates/form anew from the listings'
+	@echo 'make switch   crates/switch/out/switch: the line program'
 	@echo 'make lib      build/libvaikshurd.a, build/vaikshurd.h and build/vaikshurd.pc: the library for C'
 	@echo 'make install  the same three below PREFIX ($(PREFIX)): lib, include, lib/pkgconfig'
 	@echo 'make clean    remove what was built'
 
 # the line program on the scope's example; it and the library are proved first
-demo:
-	@echo 'Proving the book (some minutes the first time) ..'
-	@mkdir -p build && rt check switch >build/demo.log 2>&1 || { tail -n 30 build/demo.log; exit 1; }
+demo: switch
 	@tools/demo.sh
 	@echo
 	@echo 'A gateway in C over the same library (examples/gateway.c), and why it says that a transfer was aborted:'
@@ -34,8 +34,7 @@ demo:
 	@$(MAKE) -s gateway
 
 vectors:
-	@mkdir -p build && rt check vectors >build/vectors.log 2>&1 || { tail -n 30 build/vectors.log; exit 1; }
-	@target/bin/vectors
+	@mkdir -p build && cd crates/vectors && rt run 2>../../build/vectors.log || { tail -n 30 ../../build/vectors.log; exit 1; }
 
 gateway: lib
 	@gcc -std=c99 -Wall -Wextra -Werror -Iinclude examples/gateway.c build/libvaikshurd.a -o build/gateway
@@ -61,9 +60,17 @@ lib: build/libvaikshurd.a build/vaikshurd.h build/vaikshurd.pc
 # the readers, writers and hash as C calls, for the tests
 probe: $(PROBE)
 
-target/staticlib/lib%.a: $(SOURCES)
-	@echo 'Proving $* (some minutes the first time) ..'
-	@mkdir -p build && rt staticlib $* >build/lib.log 2>&1 || { tail -n 30 build/lib.log; exit 1; }
+crates/vaikshurd/out/libvaikshurd.a crates/probe/out/libprobe.a: $(SOURCES)
+	@echo 'Proving $(patsubst lib%.a,%,$(@F)) (some minutes the first time) ..'
+	@mkdir -p build && (cd $(dir $(@D)) && rt lib) >build/lib.log 2>&1 || { tail -n 30 build/lib.log; exit 1; }
+	@touch $@
+
+# the line program; on no line it prints nothing
+switch: crates/switch/out/switch
+
+crates/switch/out/switch: $(SOURCES)
+	@echo 'Proving the line program (some minutes the first time) ..'
+	@mkdir -p build && (cd crates/switch && rt run </dev/null) >build/switch.log 2>&1 || { tail -n 30 build/switch.log; exit 1; }
 	@touch $@
 
 build/libvaikshurd.a: $(VAIKSHURD)
@@ -85,4 +92,4 @@ install: lib
 	@echo 'installed libvaikshurd.a, vaikshurd.h and vaikshurd.pc below $(DESTDIR)$(PREFIX)'
 
 clean:
-	rm -rf target build
+	rm -rf build crates/*/out

@@ -2,13 +2,13 @@
 # Builds the benches against the proved libraries and runs them: texts and hash, then the book. What is missing of the compilers and of the
 # headers of OpenSSL and SQLite is installed first. `make bench` has the libraries made before.
 #   bench/run.sh [texts] [book]
-#   PROBE_LIB_DIR       where libprobe.a is (default: target/staticlib)
+#   PROBE_LIB_DIR       where libprobe.a is (default: crates/probe/out)
 #   VAIKSHURD_LIB_DIR   where libvaikshurd.a is (default: build)
 set -eu
 
 here=$(cd "$(dirname "$0")" && pwd)
 root=$(dirname "$here")
-probe=${PROBE_LIB_DIR:-$root/target/staticlib}/libprobe.a
+probe=${PROBE_LIB_DIR:-$root/crates/probe/out}/libprobe.a
 vaikshurd=${VAIKSHURD_LIB_DIR:-$root/build}/libvaikshurd.a
 out=$root/build/bench
 

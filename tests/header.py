@@ -55,7 +55,7 @@ def in_c(name, kind):
 def exported(rattle):
     """Each exported call as C would declare it: its name, and its answer and parameters."""
     rattle = re.sub(r"//[^\n]*", "", rattle)
-    form = r'#\[no_mangle\]\s*pub extern "C" fn (\w+)\(([^)]*)\)\s*(?:->\s*(\w+))?'
+    form = r'#\[unsafe\(no_mangle\)\]\s*pub extern "C" fn (\w+)\(([^)]*)\)\s*(?:->\s*(\w+))?'
     calls = {}
     for name, parameters, answer in re.findall(form, rattle):
         pairs = [part.strip().split(":", 1) for part in parameters.split(",") if part.strip()]
@@ -63,7 +63,7 @@ def exported(rattle):
         if answer not in NUMBERS:
             raise Wrong(f"{name} answers {answer or 'nothing'}, which has no C kind")
         calls[name] = (NUMBERS[answer], [parameter for kind in kinds for parameter in kind])
-    if len(calls) != rattle.count("#[no_mangle]"):
+    if len(calls) != rattle.count("no_mangle"):
         raise Wrong("an export of the Rattle source was not understood")
     return calls
 
@@ -176,7 +176,7 @@ PLANTED = [
     ("exports", "extern \"C\" fn vaik_lookup(", "extern \"C\" fn vaik_find(", "an export under another name"),
     ("exports", "instant: &mut i64", "instant: &mut u64", "an export with a number of another sign"),
     ("exports", "list: &mut [u8]", "list: &mut [u32]", "an export with a slice of something else"),
-    ("exports", "#[no_mangle]\npub extern \"C\" fn vaik_code(", "pub fn vaik_code(", "an export taken back"),
+    ("exports", "#[unsafe(no_mangle)]\npub extern \"C\" fn vaik_code(", "pub fn vaik_code(", "an export taken back"),
     ("answers", "Answer::ClockGoesBack => 15", "Answer::ClockGoesBack => 16", "a number changed in the source"),
 ]
 

@@ -1,7 +1,7 @@
 #!/bin/sh
-# The whole test: the tables, the layout, the header, the prover's gate, the comparisons with the second implementation, and what a
-# gateway's author does with the library. The very last line is `N passed, M failed`, where N counts every part of it; the exit status
-# is 0 only if M is 0.
+# The whole test: the prover's gate, the tables, the header, the comparisons with the second implementation, and what a gateway's author
+# does with the library. The gate comes first, over the checkout as it is. The very last line is `N passed, M failed`, where N counts every
+# part of it; the exit status is 0 only if M is 0.
 set -u
 
 cd "$(dirname "$0")/.." || exit 1
@@ -40,7 +40,7 @@ many() {
     mkdir -p build
     "$@" >"build/$name.log" 2>&1
     status=$?
-    grep -E '^(rt: (must-fail|[a-z0-9]+ proved|FAILED)|ok |FAILED|installing)' "build/$name.log"
+    grep -E '^(rt: |ok |FAILED|installing)' "build/$name.log"
     counted=$(tail -n 1 "build/$name.log" | sed -n 's/^\([0-9][0-9]*\) passed, \([0-9][0-9]*\) failed$/\1 \2/p')
     if [ -z "$counted" ]; then
         echo "FAILED $name: it ended early (exit status $status)"
@@ -57,6 +57,19 @@ many() {
     [ "$status" -eq 0 ] || tail -n 40 "build/$name.log"
 }
 
+# The gate's line `rt: ok` counts each wrong program of crates/*/must-fail as refused, and none as bad: one whose text does not stand in its
+# file any more, say, which the gate itself lets pass.
+edits_refused() {
+    line=$(grep '^rt: ok;' build/gate.log) || { echo "the gate's log has no line 'rt: ok'"; return 1; }
+    refused=$(echo "$line" | sed -n 's/.*must-fail edits: \([0-9][0-9]*\) refused.*/\1/p')
+    bad=$(echo "$line" | sed -n 's/.*must-fail edits: [^;]*, \([0-9][0-9]*\) bad.*/\1/p')
+    written=$(find crates/*/must-fail -name '*.edit' | wc -l)
+    [ "${bad:-0}" -eq 0 ] && [ "${refused:-0}" -eq "$written" ] && return
+    echo "of $written wrong programs the gate refused ${refused:-0}, and ${bad:-0} were bad"
+    grep 'BAD EDIT' build/gate.log
+    return 1
+}
+
 # in a shell of its own, so that the folder stays
 second() (
     make -s probe && cd tests && cargo run --release --offline
@@ -67,8 +80,12 @@ book() (
 )
 
 lines() (
-    rt check switch && cd tests && cargo run --release --offline --bin lines
+    make -s switch && cd tests && cargo run --release --offline --bin lines
 )
+
+command -v rt >/dev/null 2>&1 || echo "the Rattle kit's rt is not on the PATH"
+many gate rt ci
+one edits edits_refused
 
 need make make
 need gcc gcc
@@ -78,13 +95,10 @@ need cargo cargo
 need python3 python3
 need pkg-config pkg-config
 need valgrind valgrind
-command -v rt >/dev/null 2>&1 || echo "the Rattle kit's rt is not on the PATH"
 
 one tables python3 tools/forms.py --check
-one layout rt fmt --check
 one header python3 tests/header.py
 many planted python3 tests/header.py --planted
-many gate rt ci
 many second second
 many book book
 many lines lines

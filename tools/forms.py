@@ -87,7 +87,7 @@ CLOCK = seq(
     char("."), times(3, DIGIT))
 ZONE = alt(char("Z"), seq(any_of("+-"), span("0", "1"), DIGIT, char(":"), span("0", "5"), DIGIT))
 FORMS = {
-    "dateTime": seq(alt(seq(span("1", "9"), times(3, DIGIT), char("-"), MONTH_DAY), LEAP_DAY), CLOCK, ZONE),
+    "date_time": seq(alt(seq(span("1", "9"), times(3, DIGIT), char("-"), MONTH_DAY), LEAP_DAY), CLOCK, ZONE),
     "id": seq(times(8, HEX), char("-"), times(4, HEX), char("-"), span("1", "5"), times(3, HEX), char("-"), alt(span("8", "9"), span("a", "b")),
               times(3, HEX), char("-"), times(12, HEX)),
 }
@@ -132,7 +132,7 @@ def table_of(machine, classes):
 def source(classes, tables):
     out = ["// Written by tools/forms.py from the published listings; compared with them where each form is proved, as in proofs/datetime_form."]
     for name, numbers, note in [("CLASS", classes, "The class of each byte.")] + [
-            (name.upper(), table, "A row for each state: what the end of the text, and each class of bytes, leads to.") for name, table in tables.items()]:
+            (name.upper().replace("_", ""), table, "A row for each state: what the end of the text, and each class of bytes, leads to.") for name, table in tables.items()]:
         rows = ["".join(f"\\x{n:02x}" for n in numbers[i:i + WIDTH]) for i in range(0, len(numbers), WIDTH)]
         out += ["", "// " + note, f'pub const {name}: [u8; {len(numbers)}] = *b"\\'] + [f"    {row}\\" for row in rows] + ['    ";']
     return "\n".join(out) + "\n"
@@ -140,9 +140,9 @@ def source(classes, tables):
 
 def proofs(machines):
     out = ["-- Written by tools/forms.py: for each form a text that leads to each state of its table in src/tables.rt.",
-           "use Prim.Native.Nat.{ℕ}", "use mathlib.Core.List.{List, [], _∷_, map}", "use Rattle·octets.specs.Ascii.{ascii}", ""]
+           "use Prim.Native.Nat.{ℕ}", "use mathlib.Core.List.{List, [], ◌∷◌, map}", "use Rattle.octets.specs.Ascii.{ascii}", ""]
     for name, (_, words, _) in machines.items():
-        out += [f"unfoldable pub {name}Words : List (List ℕ)", f"{name}Words =", "    map ascii", "    (" + " ∷\n    ".join(f'"{word}"' for word in words[1:]) + " ∷ [])", ""]
+        out += [f"unfoldable pub {name}_words : List (List ℕ)", f"{name}_words =", "    map ascii", "    (" + " ∷\n    ".join(f'"{word}"' for word in words[1:]) + " ∷ [])", ""]
     return "\n".join(out[:-1]) + "\n"
 
 

@@ -185,7 +185,7 @@ zones p b l j =
           minus_value = reads_minus c v;
         }
 
--- `leap-days`: of the years 1000 to 9999 exactly the leap years have a 29th of February
+-- `leap_days`: of the years 1000 to 9999 exactly the leap years have a 29th of February
 abbrev feb29 : ℕ → List ℕ
 feb29 y = in_digits 4 y ++ ascii "-02-29T00:00:00.000Z"
 

@@ -1,7 +1,7 @@
 -- Demand 3: "From a freshly opened book, every answer, transfer state and position after any list of calls equals a recount from that list
 -- alone; a transfer ends once; positions add up to the amounts still reserved; no position is above its cap; the out-of-shape refusal is
--- never given." The book is the head and both lent books: `repliesOf` and `bookAfter` are its calls on bytes (specs/History.antt), and
--- `recountOf` and `pastAfter` have the list of calls alone (specs/Recount.antt).
+-- never given." The book is the head and both lent books: `replies_of` and `book_after` are its calls on bytes (specs/History.antt), and
+-- `recount_of` and `past_after` have the list of calls alone (specs/Recount.antt).
 use Rattle.std.specs.Prelude.{ℕ, ◌/◌, ◌≡◌, Bool, true, false, cond, not, List, [], ◌∷◌, ◌++◌, eqb, length, pos}
 use Rattle.std.proofs.Math.Option.{Option, none, some}
 use Rattle.std.specs.Int.Signed.{le_z}

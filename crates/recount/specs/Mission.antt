@@ -11,7 +11,7 @@ use Rattle.recount.specs.History.{Came, prepare, call_of, left_by, book_after, i
 use Rattle.recount.specs.Recount.{ending_by}
 use Rattle.recount.specs.Demand.{looked_up}
 
--- the state in which a call ends the transfer that t prepared, RESERVED where the book refuses it or it does not end it. `endingBy`
+-- the state in which a call ends the transfer that t prepared, RESERVED where the book refuses it or it does not end it. `ending_by`
 -- (specs/Recount.antt) is the mission's list: a fulfilment under its id, from its payee, whose SHA-256 is the condition; an abort under its
 -- id, from its payee; a time at or after its expiration
 abbrev pub ending_on : PrepareText → Book → Came → State

@@ -1,6 +1,6 @@
 -- The recount: "it keeps no book bytes and no running position, but finds each transfer's state from the calls up to there and each
 -- position as a sum over them". For each call, everything that it can see is found anew in the list of the calls noted before it, oldest
--- first. What is answered to what is seen is said by the rules (`answerTo`, `markTo`), for the book as for the recount.
+-- first. What is answered to what is seen is said by the rules (`answer_to`, `mark_to`), for the book as for the recount.
 use Rattle.std.specs.Prelude.{ℕ, suc, ◌/◌, Bool, true, false, cond, not, ◌&&◌, ◌||◌, List, [], ◌∷◌, ◌++◌, map, length, ℤ}
 use Rattle.std.proofs.Math.Option.{Option, none, some}
 use Rattle.std.proofs.Math.IntN.{sub_ℕ}

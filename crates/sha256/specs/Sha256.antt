@@ -1,6 +1,6 @@
 -- SHA-256, written from FIPS 180-4 (August 2015) section by section, to be read beside it. Bytes and 32-bit words are numbers, a message
 -- is a list of bytes. The standard takes messages of fewer than 2 ^ 64 bits; these are messages of whole bytes, and of any length: the
--- count of bits is written modulo 2 ^ 64. 3.1: `bigEndian n x` is an integer as n bytes, the most significant first; of a larger one its n
+-- count of bits is written modulo 2 ^ 64. 3.1: `big_endian n x` is an integer as n bytes, the most significant first; of a larger one its n
 -- low bytes.
 use Rattle.std.specs.Prelude.{ℕ, zero, suc, ◌+◌, ◌-◌, ◌*◌, ◌/◌, ◌%◌, ◌^◌, cond, List, [], ◌∷◌, ◌++◌, length, take, drop, bit_and, bit_or, bit_xor, nat_lt, slice_index, slice_index_or}
 use Rattle.octets.specs.Build.{build}

@@ -8,16 +8,16 @@ use std::process::{Child, Command, Stdio};
 use std::thread;
 use std::time::Duration;
 
-/// target/bin/switch, or the program that SWITCH names.
+/// crates/switch/out/switch, or the program that SWITCH names.
 fn program() -> PathBuf {
-    let beside = PathBuf::from(env!("CARGO_MANIFEST_DIR")).join("../target/bin/switch");
+    let beside = PathBuf::from(env!("CARGO_MANIFEST_DIR")).join("../crates/switch/out/switch");
     env::var("SWITCH").map_or(beside, PathBuf::from)
 }
 
 fn started() -> Child {
     let program = program();
     let child = Command::new(&program).stdin(Stdio::piped()).stdout(Stdio::piped()).spawn();
-    child.unwrap_or_else(|error| panic!("{}: {error}; `rt check switch` builds it", program.display()))
+    child.unwrap_or_else(|error| panic!("{}: {error}; `make switch` builds it", program.display()))
 }
 
 /// What it prints when the input comes in parts of these lengths, the last of them again and again.
