@@ -13,13 +13,13 @@ use borrow.Author.Rules.{rules}
 use Rattle.book.proofs.carry_out.Goals as goal
 
 pub overflow_mul-at : goal.overflow_mul-at
-overflow_mul-at c = omega (arith, ((let fact : let a = c.args in CanEnd (book_of a.h a.opened.now a.ended.now) a.d.slot (num (bytes a.party 1) (row a.opened.now a.d.slot)) = c.requires.ends (let fact : is_done c.args.d.answer ≡ true = sym c.is_done.ensures ∙ c.if-is_done.true in fact) in fact)).slot)
+overflow_mul-at c = omega (arith, ((c.requires.ends (let fact : is_done c.args.d.answer ≡ true = sym c.is_done.ensures ∙ c.if-is_done.true in fact))).slot)
 
 pub overflow_add-account : goal.overflow_add-account
-overflow_add-account c = omega (arith, ((let fact : let a = c.args in CanEnd (book_of a.h a.opened.now a.ended.now) a.d.slot (num (bytes a.party 1) (row a.opened.now a.d.slot)) = c.requires.ends (let fact : is_done c.args.d.answer ≡ true = sym c.is_done.ensures ∙ c.if-is_done.true in fact) in fact)).slot, c.requires.byte)
+overflow_add-account c = omega (arith, ((c.requires.ends (let fact : is_done c.args.d.answer ≡ true = sym c.is_done.ensures ∙ c.if-is_done.true in fact))).slot, c.requires.byte)
 
 pub bounds-opened-at : goal.bounds-opened-at
-bounds-opened-at c = omega (arith, ((let fact : let a = c.args in CanEnd (book_of a.h a.opened.now a.ended.now) a.d.slot (num (bytes a.party 1) (row a.opened.now a.d.slot)) = c.requires.ends (let fact : is_done c.args.d.answer ≡ true = sym c.is_done.ensures ∙ c.if-is_done.true in fact) in fact)).slot, c.requires.byte)
+bounds-opened-at c = omega (arith, ((c.requires.ends (let fact : is_done c.args.d.answer ≡ true = sym c.is_done.ensures ∙ c.if-is_done.true in fact))).slot, c.requires.byte)
 
 pub overflow_cast-account : goal.overflow_cast-account
 overflow_cast-account c =
@@ -29,7 +29,7 @@ overflow_cast-account c =
 pub end_record-next-requires : goal.end_record-next-requires
 end_record-next-requires c =
     let a = c in
-    rw (← byte-at a.args.opened.now a.args.d.slot a.args.party ((let fact : let a = c.args in CanEnd (book_of a.h a.opened.now a.ended.now) a.d.slot (num (bytes a.party 1) (row a.opened.now a.d.slot)) = c.requires.ends (let fact : is_done c.args.d.answer ≡ true = sym c.is_done.ensures ∙ c.if-is_done.true in fact) in fact)).slot a.pre.byte) ((let fact : let a = c.args in CanEnd (book_of a.h a.opened.now a.ended.now) a.d.slot (num (bytes a.party 1) (row a.opened.now a.d.slot)) = c.requires.ends (let fact : is_done c.args.d.answer ≡ true = sym c.is_done.ensures ∙ c.if-is_done.true in fact) in fact))
+    rw (← byte-at a.args.opened.now a.args.d.slot a.args.party ((c.requires.ends (let fact : is_done c.args.d.answer ≡ true = sym c.is_done.ensures ∙ c.if-is_done.true in fact))).slot a.requires.byte) ((c.requires.ends (let fact : is_done c.args.d.answer ≡ true = sym c.is_done.ensures ∙ c.if-is_done.true in fact)))
 
 pub returns-then-is_done : goal.returns-then-is_done
 returns-then-is_done c =
@@ -39,7 +39,7 @@ returns-then-is_done c =
       c.end_record-next.ensures.0,
       c.end_record-next.ensures.1,
       c.end_record-next.ensures.2,
-      byte-at a.args.opened.now a.args.d.slot a.args.party ((let fact : let a = c.args in CanEnd (book_of a.h a.opened.now a.ended.now) a.d.slot (num (bytes a.party 1) (row a.opened.now a.d.slot)) = c.requires.ends (let fact : is_done c.args.d.answer ≡ true = sym c.is_done.ensures ∙ c.if-is_done.true in fact) in fact)).slot a.pre.byte,
+      byte-at a.args.opened.now a.args.d.slot a.args.party ((c.requires.ends (let fact : is_done c.args.d.answer ≡ true = sym c.is_done.ensures ∙ c.if-is_done.true in fact))).slot a.requires.byte,
       (let fact : is_done c.args.d.answer ≡ true = sym c.is_done.ensures ∙ c.if-is_done.true in fact),
     )
 

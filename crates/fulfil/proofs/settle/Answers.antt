@@ -18,7 +18,7 @@ carry_out-requires c =
     let a = c in
     record {
       byte = omega arith;
-      ends = decided_ends (book_of a.args.h a.args.opened.now a.args.ended.now) _ _ (by_state a.args.fulfilment) _ c.decide-d.ensures ((let fact : Sound (book_of a.args.h a.args.opened.now a.args.ended.now) = shape.sound (book_of a.args.h a.args.opened.now a.args.ended.now) ((let fact : length a.args.h.accounts ≡ 32 = search (rules, length_unmap) depth 8 in fact)) a.requires in fact)) (num payee_field) (λ r s. s.payee);
+      ends = decided_ends (book_of a.args.h a.args.opened.now a.args.ended.now) _ _ (by_state a.args.fulfilment) _ c.decide-d.ensures ((let fact : Sound (book_of a.args.h a.args.opened.now a.args.ended.now) = shape.sound (book_of a.args.h a.args.opened.now a.args.ended.now) (let fact : length a.args.h.accounts ≡ 32 = search (rules, length_unmap) depth 8 in fact) a.requires in fact)) (num payee_field) (λ r s. s.payee);
     }
 
 pub returns : goal.returns

@@ -36,7 +36,7 @@ returns-then-not-fits c =
 pub apply-requires : goal.apply-requires
 apply-requires c =
     let r = ap (λ (a : Amount). a.remainder) ((let fact : let s = c.args in (is_of amount_form s.cap.now ≡ true) × (amount_of (ten_thousandths s.cap.now) ≡ c.in-Value.a) = amount-value c.args.cap.now c.in-Value.a (sym c.read_amount-read.ensures ∙ c.in-Value.is) in fact)).1 in
-    (sound_named (book_of c.args.h c.args.opened.now c.args.ended.now) ((let fact : Sound (book_of c.args.h c.args.opened.now c.args.ended.now) = shape.sound (book_of c.args.h c.args.opened.now c.args.ended.now) ((let fact : length c.args.h.accounts ≡ 32 = search (rules, length_unmap) depth 8 in fact)) ((let fact : shape (book_of c.args.h c.args.opened.now c.args.ended.now) ≡ true = sym c.is_sound.ensures ∙ not-false _ c.if-not-is_sound.false-raw in fact)) in fact)), omega (arith, r), name_short c.args.name.now ((let fact : is_of name_form c.args.name.now ≡ true = (let fact : is_of name_form c.args.name.now ≡ c.fits.result = sym (c.fits.ensures ∙ ap fits c.read_name.ensures) in fact) ∙ not-false _ c.if-not-fits.false-raw in fact)))
+    (sound_named (book_of c.args.h c.args.opened.now c.args.ended.now) ((let fact : Sound (book_of c.args.h c.args.opened.now c.args.ended.now) = shape.sound (book_of c.args.h c.args.opened.now c.args.ended.now) (let fact : length c.args.h.accounts ≡ 32 = search (rules, length_unmap) depth 8 in fact) ((let fact : shape (book_of c.args.h c.args.opened.now c.args.ended.now) ≡ true = sym c.is_sound.ensures ∙ not-false _ c.if-not-is_sound.false-raw in fact)) in fact)), omega (arith, r), name_short c.args.name.now ((let fact : is_of name_form c.args.name.now ≡ true = (let fact : is_of name_form c.args.name.now ≡ c.fits.result = sym (c.fits.ensures ∙ ap fits c.read_name.ensures) in fact) ∙ not-false _ c.if-not-fits.false-raw in fact)))
 
 pub returns-in-Refused : goal.returns-in-Refused
 returns-in-Refused c =
@@ -50,4 +50,4 @@ returns-in-Value c =
     let v = (let fact : let s = c.args in (is_of amount_form s.cap.now ≡ true) × (amount_of (ten_thousandths s.cap.now) ≡ c.in-Value.a) = amount-value c.args.cap.now c.in-Value.a (sym c.read_amount-read.ensures ∙ c.in-Value.is) in fact) in
     rw (c.apply.ensures, ← v.1)
     (join_decided (book_of c.args.h c.args.opened.now c.args.ended.now) c.args.name.now c.args.cap.now ((let fact : shape (book_of c.args.h c.args.opened.now c.args.ended.now) ≡ true = sym c.is_sound.ensures ∙ not-false _ c.if-not-is_sound.false-raw in fact)) ((let fact : is_of name_form c.args.name.now ≡ true = (let fact : is_of name_form c.args.name.now ≡ c.fits.result = sym (c.fits.ensures ∙ ap fits c.read_name.ensures) in fact) ∙ not-false _ c.if-not-fits.false-raw in fact)) v.0
-    (length_accounts c.args.h ((let fact : length c.args.h.accounts ≡ 32 = search (rules, length_unmap) depth 8 in fact)) ((let fact : Sound (book_of c.args.h c.args.opened.now c.args.ended.now) = shape.sound (book_of c.args.h c.args.opened.now c.args.ended.now) ((let fact : length c.args.h.accounts ≡ 32 = search (rules, length_unmap) depth 8 in fact)) ((let fact : shape (book_of c.args.h c.args.opened.now c.args.ended.now) ≡ true = sym c.is_sound.ensures ∙ not-false _ c.if-not-is_sound.false-raw in fact)) in fact)).few))
+    (length_accounts c.args.h (let fact : length c.args.h.accounts ≡ 32 = search (rules, length_unmap) depth 8 in fact) ((let fact : Sound (book_of c.args.h c.args.opened.now c.args.ended.now) = shape.sound (book_of c.args.h c.args.opened.now c.args.ended.now) (let fact : length c.args.h.accounts ≡ 32 = search (rules, length_unmap) depth 8 in fact) ((let fact : shape (book_of c.args.h c.args.opened.now c.args.ended.now) ≡ true = sym c.is_sound.ensures ∙ not-false _ c.if-not-is_sound.false-raw in fact)) in fact)).few))

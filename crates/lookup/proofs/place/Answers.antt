@@ -27,7 +27,7 @@ returns-then-not-fits c =
 
 pub find-requires : goal.find-requires
 find-requires c =
-    in_books _ (sound (book_of c.args.h c.args.opened.now c.args.ended.now) ((let fact : length c.args.h.accounts ≡ 32 = search (rules, length_unmap) depth 8 in fact)) ((let fact : shape (book_of c.args.h c.args.opened.now c.args.ended.now) ≡ true = sym c.is_sound.ensures ∙ not-false _ c.if-not-is_sound.false-raw in fact)))
+    in_books _ (sound (book_of c.args.h c.args.opened.now c.args.ended.now) (let fact : length c.args.h.accounts ≡ 32 = search (rules, length_unmap) depth 8 in fact) ((let fact : shape (book_of c.args.h c.args.opened.now c.args.ended.now) ≡ true = sym c.is_sound.ensures ∙ not-false _ c.if-not-is_sound.false-raw in fact)))
 
 pub returns : goal.returns
 returns c =

@@ -18,46 +18,46 @@ find-place-requires c =
     in_books (book_of c.args.h c.args.opened.now c.args.ended.now) c.requires.sound
 
 pub overflow_mul-k : goal.overflow_mul-k
-overflow_mul-k c = record { fits = omega (arith, (let fact : c.in-Opened.k * 160 + 160 ≤ length c.args.opened.now = let s = c in opened_inside (book_of s.args.h s.args.opened.now s.args.ended.now) s.pre.sound s.args.c.id _ ((let fact : let s = c in where_is (book_of s.args.h s.args.opened.now s.args.ended.now) s.args.c.id ≡ Opened c.in-Opened.k = sym c.find-place.ensures ∙ c.in-Opened.is in fact)) in fact)) }
+overflow_mul-k c = record { fits = omega (arith, (let fact : c.in-Opened.k * 160 + 160 ≤ length c.args.opened.now = let s = c in opened_inside (book_of s.args.h s.args.opened.now s.args.ended.now) s.requires.sound s.args.c.id _ ((let fact : let s = c in where_is (book_of s.args.h s.args.opened.now s.args.ended.now) s.args.c.id ≡ Opened c.in-Opened.k = sym c.find-place.ensures ∙ c.in-Opened.is in fact)) in fact)) }
 
 pub overflow_mul-k-in-Opened : goal.overflow_mul-k-in-Opened
-overflow_mul-k-in-Opened c = record { fits = omega (arith, (let fact : c.in-Opened.k * 160 + 160 ≤ length c.args.opened.now = let s = c in opened_inside (book_of s.args.h s.args.opened.now s.args.ended.now) s.pre.sound s.args.c.id _ ((let fact : let s = c in where_is (book_of s.args.h s.args.opened.now s.args.ended.now) s.args.c.id ≡ Opened c.in-Opened.k = sym c.find-place.ensures ∙ c.in-Opened.is in fact)) in fact)) }
+overflow_mul-k-in-Opened c = record { fits = omega (arith, (let fact : c.in-Opened.k * 160 + 160 ≤ length c.args.opened.now = let s = c in opened_inside (book_of s.args.h s.args.opened.now s.args.ended.now) s.requires.sound s.args.c.id _ ((let fact : let s = c in where_is (book_of s.args.h s.args.opened.now s.args.ended.now) s.args.c.id ≡ Opened c.in-Opened.k = sym c.find-place.ensures ∙ c.in-Opened.is in fact)) in fact)) }
 
 pub overflow_add-k : goal.overflow_add-k
-overflow_add-k c = record { fits = omega (arith, (let fact : c.in-Opened.k * 160 + 160 ≤ length c.args.opened.now = let s = c in opened_inside (book_of s.args.h s.args.opened.now s.args.ended.now) s.pre.sound s.args.c.id _ ((let fact : let s = c in where_is (book_of s.args.h s.args.opened.now s.args.ended.now) s.args.c.id ≡ Opened c.in-Opened.k = sym c.find-place.ensures ∙ c.in-Opened.is in fact)) in fact)) }
+overflow_add-k c = record { fits = omega (arith, (let fact : c.in-Opened.k * 160 + 160 ≤ length c.args.opened.now = let s = c in opened_inside (book_of s.args.h s.args.opened.now s.args.ended.now) s.requires.sound s.args.c.id _ ((let fact : let s = c in where_is (book_of s.args.h s.args.opened.now s.args.ended.now) s.args.c.id ≡ Opened c.in-Opened.k = sym c.find-place.ensures ∙ c.in-Opened.is in fact)) in fact)) }
 
 pub ??slice-bounds-on-record-end : goal.??Need-slice-bounds-on-record-end
-??slice-bounds-on-record-end c = omega (arith, (let fact : c.in-Opened.k * 160 + 160 ≤ length c.args.opened.now = let s = c in opened_inside (book_of s.args.h s.args.opened.now s.args.ended.now) s.pre.sound s.args.c.id _ ((let fact : let s = c in where_is (book_of s.args.h s.args.opened.now s.args.ended.now) s.args.c.id ≡ Opened c.in-Opened.k = sym c.find-place.ensures ∙ c.in-Opened.is in fact)) in fact))
+??slice-bounds-on-record-end c = omega (arith, (let fact : c.in-Opened.k * 160 + 160 ≤ length c.args.opened.now = let s = c in opened_inside (book_of s.args.h s.args.opened.now s.args.ended.now) s.requires.sound s.args.c.id _ ((let fact : let s = c in where_is (book_of s.args.h s.args.opened.now s.args.ended.now) s.args.c.id ≡ Opened c.in-Opened.k = sym c.find-place.ensures ∙ c.in-Opened.is in fact)) in fact))
 
 pub on_record-requires : goal.on_record-requires
 on_record-requires c =
     let s = c in
     rw (lent_row s.args.opened.now c.in-Opened.k)
-    (opened_comparable (book_of s.args.h s.args.opened.now s.args.ended.now) s.pre.sound s.args.c.id _ s.args.c s.pre.amount ((let fact : let s = c in where_is (book_of s.args.h s.args.opened.now s.args.ended.now) s.args.c.id ≡ Opened c.in-Opened.k = sym c.find-place.ensures ∙ c.in-Opened.is in fact)))
+    (opened_comparable (book_of s.args.h s.args.opened.now s.args.ended.now) s.requires.sound s.args.c.id _ s.args.c s.requires.amount ((let fact : let s = c in where_is (book_of s.args.h s.args.opened.now s.args.ended.now) s.args.c.id ≡ Opened c.in-Opened.k = sym c.find-place.ensures ∙ c.in-Opened.is in fact)))
 
 pub overflow_mul-k-in-Ended : goal.overflow_mul-k-in-Ended
-overflow_mul-k-in-Ended c = record { fits = omega (arith, (let fact : c.in-Ended.k * 160 + 160 ≤ length c.args.ended.now = let s = c in ended-inside (book_of s.args.h s.args.opened.now s.args.ended.now) s.pre.sound s.args.c.id _ ((let fact : let s = c in where_is (book_of s.args.h s.args.opened.now s.args.ended.now) s.args.c.id ≡ Ended c.in-Ended.k = sym c.find-place.ensures ∙ c.in-Ended.is in fact)) in fact)) }
+overflow_mul-k-in-Ended c = record { fits = omega (arith, (let fact : c.in-Ended.k * 160 + 160 ≤ length c.args.ended.now = let s = c in ended-inside (book_of s.args.h s.args.opened.now s.args.ended.now) s.requires.sound s.args.c.id _ ((let fact : let s = c in where_is (book_of s.args.h s.args.opened.now s.args.ended.now) s.args.c.id ≡ Ended c.in-Ended.k = sym c.find-place.ensures ∙ c.in-Ended.is in fact)) in fact)) }
 
 pub overflow_mul-k-in-Ended-2 : goal.overflow_mul-k-in-Ended-2
-overflow_mul-k-in-Ended-2 c = record { fits = omega (arith, (let fact : c.in-Ended.k * 160 + 160 ≤ length c.args.ended.now = let s = c in ended-inside (book_of s.args.h s.args.opened.now s.args.ended.now) s.pre.sound s.args.c.id _ ((let fact : let s = c in where_is (book_of s.args.h s.args.opened.now s.args.ended.now) s.args.c.id ≡ Ended c.in-Ended.k = sym c.find-place.ensures ∙ c.in-Ended.is in fact)) in fact)) }
+overflow_mul-k-in-Ended-2 c = record { fits = omega (arith, (let fact : c.in-Ended.k * 160 + 160 ≤ length c.args.ended.now = let s = c in ended-inside (book_of s.args.h s.args.opened.now s.args.ended.now) s.requires.sound s.args.c.id _ ((let fact : let s = c in where_is (book_of s.args.h s.args.opened.now s.args.ended.now) s.args.c.id ≡ Ended c.in-Ended.k = sym c.find-place.ensures ∙ c.in-Ended.is in fact)) in fact)) }
 
 pub overflow_add-k-in-Ended : goal.overflow_add-k-in-Ended
-overflow_add-k-in-Ended c = record { fits = omega (arith, (let fact : c.in-Ended.k * 160 + 160 ≤ length c.args.ended.now = let s = c in ended-inside (book_of s.args.h s.args.opened.now s.args.ended.now) s.pre.sound s.args.c.id _ ((let fact : let s = c in where_is (book_of s.args.h s.args.opened.now s.args.ended.now) s.args.c.id ≡ Ended c.in-Ended.k = sym c.find-place.ensures ∙ c.in-Ended.is in fact)) in fact)) }
+overflow_add-k-in-Ended c = record { fits = omega (arith, (let fact : c.in-Ended.k * 160 + 160 ≤ length c.args.ended.now = let s = c in ended-inside (book_of s.args.h s.args.opened.now s.args.ended.now) s.requires.sound s.args.c.id _ ((let fact : let s = c in where_is (book_of s.args.h s.args.opened.now s.args.ended.now) s.args.c.id ≡ Ended c.in-Ended.k = sym c.find-place.ensures ∙ c.in-Ended.is in fact)) in fact)) }
 
 pub ??slice-bounds-on-record-end-2 : goal.??Need-slice-bounds-on-record-end-2
-??slice-bounds-on-record-end-2 c = omega (arith, (let fact : c.in-Ended.k * 160 + 160 ≤ length c.args.ended.now = let s = c in ended-inside (book_of s.args.h s.args.opened.now s.args.ended.now) s.pre.sound s.args.c.id _ ((let fact : let s = c in where_is (book_of s.args.h s.args.opened.now s.args.ended.now) s.args.c.id ≡ Ended c.in-Ended.k = sym c.find-place.ensures ∙ c.in-Ended.is in fact)) in fact))
+??slice-bounds-on-record-end-2 c = omega (arith, (let fact : c.in-Ended.k * 160 + 160 ≤ length c.args.ended.now = let s = c in ended-inside (book_of s.args.h s.args.opened.now s.args.ended.now) s.requires.sound s.args.c.id _ ((let fact : let s = c in where_is (book_of s.args.h s.args.opened.now s.args.ended.now) s.args.c.id ≡ Ended c.in-Ended.k = sym c.find-place.ensures ∙ c.in-Ended.is in fact)) in fact))
 
 pub on_record-requires-in-Ended : goal.on_record-requires-in-Ended
 on_record-requires-in-Ended c =
     let s = c in
     rw (lent_row s.args.ended.now c.in-Ended.k)
-    (ended_comparable (book_of s.args.h s.args.opened.now s.args.ended.now) s.pre.sound s.args.c.id _ s.args.c s.pre.amount ((let fact : let s = c in where_is (book_of s.args.h s.args.opened.now s.args.ended.now) s.args.c.id ≡ Ended c.in-Ended.k = sym c.find-place.ensures ∙ c.in-Ended.is in fact)))
+    (ended_comparable (book_of s.args.h s.args.opened.now s.args.ended.now) s.requires.sound s.args.c.id _ s.args.c s.requires.amount ((let fact : let s = c in where_is (book_of s.args.h s.args.opened.now s.args.ended.now) s.args.c.id ≡ Ended c.in-Ended.k = sym c.find-place.ensures ∙ c.in-Ended.is in fact)))
 
 pub on_none-requires : goal.on_none-requires
 on_none-requires c =
     let s = c in (
-      (in_books (book_of s.args.h s.args.opened.now s.args.ended.now) s.pre.sound).slots,
-      λ e. rises (book_of s.args.h s.args.opened.now s.args.ended.now) s.pre.sound s.args.p s.args.c.amount (s.pre.payer e) s.pre.amount,
+      (in_books (book_of s.args.h s.args.opened.now s.args.ended.now) s.requires.sound).slots,
+      λ e. rises (book_of s.args.h s.args.opened.now s.args.ended.now) s.requires.sound s.args.p s.args.c.amount (s.requires.payer e) s.requires.amount,
     )
 
 pub returns-in-Opened : goal.returns-in-Opened

@@ -44,7 +44,7 @@ settle-requires c =
     let s = c in
     let p = (record { id = s.args.id.now; payer = s.args.payer.now; payee = s.args.payee.now; currency = s.args.currency.now; amount = s.args.amount.now; condition = s.args.condition.now; expiration = s.args.expiration.now; packet = s.args.packet.now; }) in (
       sound (book_of s.args.h s.args.opened.now s.args.ended.now) (let fact : length s.args.h.accounts ≡ 32 = simp length-map at s.well_formed.0.1.1.0.1.0.1 in fact) ((let fact : shape (book_of c.args.h c.args.opened.now c.args.ended.now) ≡ true = sym c.is_sound.ensures ∙ not-false _ c.if-not-is_sound.false-raw in fact)),
-      rw ((let fact : let p = (record { id = c.args.id.now; payer = c.args.payer.now; payee = c.args.payee.now; currency = c.args.currency.now; amount = c.args.amount.now; condition = c.args.condition.now; expiration = c.args.expiration.now; packet = c.args.packet.now; }) in c.content-read.result.content ≡ values_in p.id p.amount p.condition p.expiration p.packet = c.content-read.ensures.content (not-false _ c.if-not-read.false) in fact)) (values_ranged p.id p.amount p.condition p.expiration p.packet ((let fact : let p = (record { id = c.args.id.now; payer = c.args.payer.now; payee = c.args.payee.now; currency = c.args.currency.now; amount = c.args.amount.now; condition = c.args.condition.now; expiration = c.args.expiration.now; packet = c.args.packet.now; }) in texts_fit p.id p.amount p.condition p.expiration p.packet ≡ true = sym c.content-read.ensures.ok ∙ not-false _ c.if-not-read.false in fact))),
+      rw (let fact : let p = (record { id = c.args.id.now; payer = c.args.payer.now; payee = c.args.payee.now; currency = c.args.currency.now; amount = c.args.amount.now; condition = c.args.condition.now; expiration = c.args.expiration.now; packet = c.args.packet.now; }) in c.content-read.result.content ≡ values_in p.id p.amount p.condition p.expiration p.packet = c.content-read.ensures.content (not-false _ c.if-not-read.false) in fact) (values_ranged p.id p.amount p.condition p.expiration p.packet (let fact : let p = (record { id = c.args.id.now; payer = c.args.payer.now; payee = c.args.payee.now; currency = c.args.currency.now; amount = c.args.amount.now; condition = c.args.condition.now; expiration = c.args.expiration.now; packet = c.args.packet.now; }) in texts_fit p.id p.amount p.condition p.expiration p.packet ≡ true = sym c.content-read.ensures.ok ∙ not-false _ c.if-not-read.false in fact)),
     )
 
 pub returns : goal.returns
@@ -52,5 +52,5 @@ returns c =
     let s = c in
     let p = (record { id = s.args.id.now; payer = s.args.payer.now; payee = s.args.payee.now; currency = s.args.currency.now; amount = s.args.amount.now; condition = s.args.condition.now; expiration = s.args.expiration.now; packet = s.args.packet.now; }) in
     c.settle.ensures
-    ∙ ap (prepared_by (book_of s.args.h s.args.opened.now s.args.ended.now) p.payer p.payee p.currency) ((let fact : let p = (record { id = c.args.id.now; payer = c.args.payer.now; payee = c.args.payee.now; currency = c.args.currency.now; amount = c.args.amount.now; condition = c.args.condition.now; expiration = c.args.expiration.now; packet = c.args.packet.now; }) in c.content-read.result.content ≡ values_in p.id p.amount p.condition p.expiration p.packet = c.content-read.ensures.content (not-false _ c.if-not-read.false) in fact))
+    ∙ ap (prepared_by (book_of s.args.h s.args.opened.now s.args.ended.now) p.payer p.payee p.currency) (let fact : let p = (record { id = c.args.id.now; payer = c.args.payer.now; payee = c.args.payee.now; currency = c.args.currency.now; amount = c.args.amount.now; condition = c.args.condition.now; expiration = c.args.expiration.now; packet = c.args.packet.now; }) in c.content-read.result.content ≡ values_in p.id p.amount p.condition p.expiration p.packet = c.content-read.ensures.content (not-false _ c.if-not-read.false) in fact)
     ∙ stepped (book_of s.args.h s.args.opened.now s.args.ended.now) p ((let fact : shape (book_of c.args.h c.args.opened.now c.args.ended.now) ≡ true = sym c.is_sound.ensures ∙ not-false _ c.if-not-is_sound.false-raw in fact)) (in_form_lem p ∙ rw ((let fact : let p = (record { id = c.args.id.now; payer = c.args.payer.now; payee = c.args.payee.now; currency = c.args.currency.now; amount = c.args.amount.now; condition = c.args.condition.now; expiration = c.args.expiration.now; packet = c.args.packet.now; }) in names_fit p.payer p.payee p.currency ≡ true = sym c.names_fit.ensures ∙ not-false _ c.if-not-names_fit.false-raw in fact), (let fact : let p = (record { id = c.args.id.now; payer = c.args.payer.now; payee = c.args.payee.now; currency = c.args.currency.now; amount = c.args.amount.now; condition = c.args.condition.now; expiration = c.args.expiration.now; packet = c.args.packet.now; }) in texts_fit p.id p.amount p.condition p.expiration p.packet ≡ true = sym c.content-read.ensures.ok ∙ not-false _ c.if-not-read.false in fact)))

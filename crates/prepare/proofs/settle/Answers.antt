@@ -44,18 +44,18 @@ decided c =
     let a = s.args in
     c.decide_id-d.ensures
     ∙ ap₂ (λ (n : ℕ) (x : Answer). on_id (book_of s.args.h s.args.opened.now s.args.ended.now) a.payer.now a.payee.now a.c n x (held_row (book_of s.args.h s.args.opened.now s.args.ended.now) a.c.id))
-    c.place_of-p.ensures ((let fact : let a = c.args in c.decide_parties-parties.result ≡ party_rules a.h a.payer.now a.payee.now a.currency.now (place_of a.h a.payer.now) (place_of a.h a.payee.now) = let a = c.args in c.decide_parties-parties.ensures ∙ ap₂ (party_rules a.h a.payer.now a.payee.now a.currency.now) c.place_of-p.ensures c.place_of-q.ensures in fact))
+    c.place_of-p.ensures (let fact : let a = c.args in c.decide_parties-parties.result ≡ party_rules a.h a.payer.now a.payee.now a.currency.now (place_of a.h a.payer.now) (place_of a.h a.payee.now) = let a = c.args in c.decide_parties-parties.ensures ∙ ap₂ (party_rules a.h a.payer.now a.payee.now a.currency.now) c.place_of-p.ensures c.place_of-q.ensures in fact)
 
 pub decide_id-d-requires : goal.decide_id-d-requires
 decide_id-d-requires c =
     let s = start c in
     let a = s.args in
     record {
-      sound = s.pre.0;
-      amount = s.pre.1;
+      sound = s.requires.0;
+      amount = s.requires.1;
       payer = λ e.
           rw c.place_of-p.ensures
-          (parties-found (book_of s.args.h s.args.opened.now s.args.ended.now) s.pre.0 (let fact : length s.args.h.accounts ≡ 32 = simp length-map at s.well_formed.0.1.1.0.1.0.1 in fact) a.payer.now a.payee.now a.currency.now a.c
+          (parties-found (book_of s.args.h s.args.opened.now s.args.ended.now) s.requires.0 (let fact : length s.args.h.accounts ≡ 32 = simp length-map at s.well_formed.0.1.1.0.1.0.1 in fact) a.payer.now a.payee.now a.currency.now a.c
           (ap is_done (sym (parties c)) ∙ e)).0;
     }
 
@@ -64,8 +64,8 @@ reserve-requires c =
     let s = c in
     let a = s.args in
     rw (c.place_of-p.ensures, c.place_of-q.ensures)
-    (can_reserve (book_of s.args.h s.args.opened.now s.args.ended.now) s.pre.0 (let fact : length s.args.h.accounts ≡ 32 = simp length-map at s.well_formed.0.1.1.0.1.0.1 in fact) a.payer.now a.payee.now a.currency.now a.c s.pre.1
-    c.decide_id-d.result ((let fact : let s = c in let a = s.args in c.decide_id-d.result ≡ on_id (book_of s.args.h s.args.opened.now s.args.ended.now) a.payer.now a.payee.now a.c (place_of a.h a.payer.now) (party_rules a.h a.payer.now a.payee.now a.currency.now (place_of a.h a.payer.now) (place_of a.h a.payee.now)) (held_row (book_of s.args.h s.args.opened.now s.args.ended.now) a.c.id) = let s = c in let a = s.args in c.decide_id-d.ensures ∙ ap₂ (λ (n : ℕ) (x : Answer). on_id (book_of s.args.h s.args.opened.now s.args.ended.now) a.payer.now a.payee.now a.c n x (held_row (book_of s.args.h s.args.opened.now s.args.ended.now) a.c.id)) c.place_of-p.ensures ((let fact : let a = c.args in c.decide_parties-parties.result ≡ party_rules a.h a.payer.now a.payee.now a.currency.now (place_of a.h a.payer.now) (place_of a.h a.payee.now) = let a = c.args in c.decide_parties-parties.ensures ∙ ap₂ (party_rules a.h a.payer.now a.payee.now a.currency.now) c.place_of-p.ensures c.place_of-q.ensures in fact)) in fact)) (sym c.is_done.ensures ∙ c.if-is_done.true))
+    (can_reserve (book_of s.args.h s.args.opened.now s.args.ended.now) s.requires.0 (let fact : length s.args.h.accounts ≡ 32 = simp length-map at s.well_formed.0.1.1.0.1.0.1 in fact) a.payer.now a.payee.now a.currency.now a.c s.requires.1
+    c.decide_id-d.result ((let fact : let s = c in let a = s.args in c.decide_id-d.result ≡ on_id (book_of s.args.h s.args.opened.now s.args.ended.now) a.payer.now a.payee.now a.c (place_of a.h a.payer.now) (party_rules a.h a.payer.now a.payee.now a.currency.now (place_of a.h a.payer.now) (place_of a.h a.payee.now)) (held_row (book_of s.args.h s.args.opened.now s.args.ended.now) a.c.id) = let s = c in let a = s.args in c.decide_id-d.ensures ∙ ap₂ (λ (n : ℕ) (x : Answer). on_id (book_of s.args.h s.args.opened.now s.args.ended.now) a.payer.now a.payee.now a.c n x (held_row (book_of s.args.h s.args.opened.now s.args.ended.now) a.c.id)) c.place_of-p.ensures (let fact : let a = c.args in c.decide_parties-parties.result ≡ party_rules a.h a.payer.now a.payee.now a.currency.now (place_of a.h a.payer.now) (place_of a.h a.payee.now) = let a = c.args in c.decide_parties-parties.ensures ∙ ap₂ (party_rules a.h a.payer.now a.payee.now a.currency.now) c.place_of-p.ensures c.place_of-q.ensures in fact) in fact)) (sym c.is_done.ensures ∙ c.if-is_done.true))
 
 pub returns-then-is_done : goal.returns-then-is_done
 returns-then-is_done c =
@@ -73,13 +73,13 @@ returns-then-is_done c =
     let a = s.args in
     let r = c.reserve.ensures in
     rw (r.0, r.1, c.place_of-p.ensures, c.place_of-q.ensures)
-    (reserved_by_lem (book_of s.args.h s.args.opened.now s.args.ended.now) s.pre.0 (let fact : length s.args.h.accounts ≡ 32 = simp length-map at s.well_formed.0.1.1.0.1.0.1 in fact) a.payer.now a.payee.now a.currency.now a.c
-    c.decide_id-d.result ((let fact : let s = c in let a = s.args in c.decide_id-d.result ≡ on_id (book_of s.args.h s.args.opened.now s.args.ended.now) a.payer.now a.payee.now a.c (place_of a.h a.payer.now) (party_rules a.h a.payer.now a.payee.now a.currency.now (place_of a.h a.payer.now) (place_of a.h a.payee.now)) (held_row (book_of s.args.h s.args.opened.now s.args.ended.now) a.c.id) = let s = c in let a = s.args in c.decide_id-d.ensures ∙ ap₂ (λ (n : ℕ) (x : Answer). on_id (book_of s.args.h s.args.opened.now s.args.ended.now) a.payer.now a.payee.now a.c n x (held_row (book_of s.args.h s.args.opened.now s.args.ended.now) a.c.id)) c.place_of-p.ensures ((let fact : let a = c.args in c.decide_parties-parties.result ≡ party_rules a.h a.payer.now a.payee.now a.currency.now (place_of a.h a.payer.now) (place_of a.h a.payee.now) = let a = c.args in c.decide_parties-parties.ensures ∙ ap₂ (party_rules a.h a.payer.now a.payee.now a.currency.now) c.place_of-p.ensures c.place_of-q.ensures in fact)) in fact)) (sym c.is_done.ensures ∙ c.if-is_done.true))
+    (reserved_by_lem (book_of s.args.h s.args.opened.now s.args.ended.now) s.requires.0 (let fact : length s.args.h.accounts ≡ 32 = simp length-map at s.well_formed.0.1.1.0.1.0.1 in fact) a.payer.now a.payee.now a.currency.now a.c
+    c.decide_id-d.result ((let fact : let s = c in let a = s.args in c.decide_id-d.result ≡ on_id (book_of s.args.h s.args.opened.now s.args.ended.now) a.payer.now a.payee.now a.c (place_of a.h a.payer.now) (party_rules a.h a.payer.now a.payee.now a.currency.now (place_of a.h a.payer.now) (place_of a.h a.payee.now)) (held_row (book_of s.args.h s.args.opened.now s.args.ended.now) a.c.id) = let s = c in let a = s.args in c.decide_id-d.ensures ∙ ap₂ (λ (n : ℕ) (x : Answer). on_id (book_of s.args.h s.args.opened.now s.args.ended.now) a.payer.now a.payee.now a.c n x (held_row (book_of s.args.h s.args.opened.now s.args.ended.now) a.c.id)) c.place_of-p.ensures (let fact : let a = c.args in c.decide_parties-parties.result ≡ party_rules a.h a.payer.now a.payee.now a.currency.now (place_of a.h a.payer.now) (place_of a.h a.payee.now) = let a = c.args in c.decide_parties-parties.ensures ∙ ap₂ (party_rules a.h a.payer.now a.payee.now a.currency.now) c.place_of-p.ensures c.place_of-q.ensures in fact) in fact)) (sym c.is_done.ensures ∙ c.if-is_done.true))
 
 pub returns : goal.returns
 returns c =
     let s = c in
     let a = s.args in
     rw c.reply.ensures
-    (refused (book_of s.args.h s.args.opened.now s.args.ended.now) s.pre.0 (let fact : length s.args.h.accounts ≡ 32 = simp length-map at s.well_formed.0.1.1.0.1.0.1 in fact) a.payer.now a.payee.now a.currency.now a.c
-    c.decide_id-d.result ((let fact : let s = c in let a = s.args in c.decide_id-d.result ≡ on_id (book_of s.args.h s.args.opened.now s.args.ended.now) a.payer.now a.payee.now a.c (place_of a.h a.payer.now) (party_rules a.h a.payer.now a.payee.now a.currency.now (place_of a.h a.payer.now) (place_of a.h a.payee.now)) (held_row (book_of s.args.h s.args.opened.now s.args.ended.now) a.c.id) = let s = c in let a = s.args in c.decide_id-d.ensures ∙ ap₂ (λ (n : ℕ) (x : Answer). on_id (book_of s.args.h s.args.opened.now s.args.ended.now) a.payer.now a.payee.now a.c n x (held_row (book_of s.args.h s.args.opened.now s.args.ended.now) a.c.id)) c.place_of-p.ensures ((let fact : let a = c.args in c.decide_parties-parties.result ≡ party_rules a.h a.payer.now a.payee.now a.currency.now (place_of a.h a.payer.now) (place_of a.h a.payee.now) = let a = c.args in c.decide_parties-parties.ensures ∙ ap₂ (party_rules a.h a.payer.now a.payee.now a.currency.now) c.place_of-p.ensures c.place_of-q.ensures in fact)) in fact)) (sym c.is_done.ensures ∙ c.if-is_done.false))
+    (refused (book_of s.args.h s.args.opened.now s.args.ended.now) s.requires.0 (let fact : length s.args.h.accounts ≡ 32 = simp length-map at s.well_formed.0.1.1.0.1.0.1 in fact) a.payer.now a.payee.now a.currency.now a.c
+    c.decide_id-d.result ((let fact : let s = c in let a = s.args in c.decide_id-d.result ≡ on_id (book_of s.args.h s.args.opened.now s.args.ended.now) a.payer.now a.payee.now a.c (place_of a.h a.payer.now) (party_rules a.h a.payer.now a.payee.now a.currency.now (place_of a.h a.payer.now) (place_of a.h a.payee.now)) (held_row (book_of s.args.h s.args.opened.now s.args.ended.now) a.c.id) = let s = c in let a = s.args in c.decide_id-d.ensures ∙ ap₂ (λ (n : ℕ) (x : Answer). on_id (book_of s.args.h s.args.opened.now s.args.ended.now) a.payer.now a.payee.now a.c n x (held_row (book_of s.args.h s.args.opened.now s.args.ended.now) a.c.id)) c.place_of-p.ensures (let fact : let a = c.args in c.decide_parties-parties.result ≡ party_rules a.h a.payer.now a.payee.now a.currency.now (place_of a.h a.payer.now) (place_of a.h a.payee.now) = let a = c.args in c.decide_parties-parties.ensures ∙ ap₂ (party_rules a.h a.payer.now a.payee.now a.currency.now) c.place_of-p.ensures c.place_of-q.ensures in fact) in fact)) (sym c.is_done.ensures ∙ c.if-is_done.false))

@@ -22,7 +22,7 @@ returns-then-not-all_in_form c =
 
 pub none_twice-requires : goal.none_twice-requires
 none_twice-requires c =
-    judged_named c.args.h ((let fact : length c.args.h.accounts ≡ 32 = search (rules, length_unmap) depth 8 in fact))
+    judged_named c.args.h (let fact : length c.args.h.accounts ≡ 32 = search (rules, length_unmap) depth 8 in fact)
     (record { few = c.if-h-gt32.false; each = sym c.all_in_form.ensures ∙ not-false _ c.if-not-all_in_form.false-raw })
 
 pub returns : goal.returns

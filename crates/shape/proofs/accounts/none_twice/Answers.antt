@@ -24,16 +24,16 @@ is_new-requires c = (omega arith, c.requires)
 pub returns-then-not-is_new : goal.returns-then-not-is_new
 returns-then-not-is_new c =
     let h = c.args.h in
-    sym (none_fails (names_of h) c.loop-k.k ((let fact : c.loop-k.k < length (names_of c.args.h) = omega (arith, length-names c.args.h ((let fact : length c.args.h.accounts ≡ 32 = search (rules, length_unmap) depth 8 in fact)) c.requires.few) in fact)) ((let fact : is_new (take c.loop-k.k (names_of c.args.h)) (get_or (names_of c.args.h) c.loop-k.k []) ≡ c.is_new.result = rw (name_at c.args.h c.loop-k.k (omega arith)) (sym c.is_new.ensures) in fact) ∙ not-true _ c.if-not-is_new.true-raw))
+    sym (none_fails (names_of h) c.loop-k.k ((let fact : c.loop-k.k < length (names_of c.args.h) = omega (arith, length-names c.args.h (let fact : length c.args.h.accounts ≡ 32 = search (rules, length_unmap) depth 8 in fact) c.requires.few) in fact)) ((let fact : is_new (take c.loop-k.k (names_of c.args.h)) (get_or (names_of c.args.h) c.loop-k.k []) ≡ c.is_new.result = rw (name_at c.args.h c.loop-k.k (omega arith)) (sym c.is_new.ensures) in fact) ∙ not-true _ c.if-not-is_new.true-raw))
 
 pub loop-k-preserved : goal.loop-k-preserved
 loop-k-preserved c =
     let l = c.loop-k in
     let h = c.args.h in
-    (omega arith, none_more (names_of h) l.k ((let fact : c.loop-k.k < length (names_of c.args.h) = omega (arith, length-names c.args.h ((let fact : length c.args.h.accounts ≡ 32 = search (rules, length_unmap) depth 8 in fact)) c.requires.few) in fact)) ∙ rw (l.invariant.1, (let fact : is_new (take c.loop-k.k (names_of c.args.h)) (get_or (names_of c.args.h) c.loop-k.k []) ≡ c.is_new.result = rw (name_at c.args.h c.loop-k.k (omega arith)) (sym c.is_new.ensures) in fact) ∙ not-false _ c.if-not-is_new.false-raw))
+    (omega arith, none_more (names_of h) l.k ((let fact : c.loop-k.k < length (names_of c.args.h) = omega (arith, length-names c.args.h (let fact : length c.args.h.accounts ≡ 32 = search (rules, length_unmap) depth 8 in fact) c.requires.few) in fact)) ∙ rw (l.invariant.1, (let fact : is_new (take c.loop-k.k (names_of c.args.h)) (get_or (names_of c.args.h) c.loop-k.k []) ≡ c.is_new.result = rw (name_at c.args.h c.loop-k.k (omega arith)) (sym c.is_new.ensures) in fact) ∙ not-false _ c.if-not-is_new.false-raw))
 
 pub returns : goal.returns
 returns c =
     let l = c.loop-k in
-    let whole = take_all l.k (names_of c.args.h) (omega (arith, length-names c.args.h ((let fact : length c.args.h.accounts ≡ 32 = search (rules, length_unmap) depth 8 in fact)) c.requires.few)) in
+    let whole = take_all l.k (names_of c.args.h) (omega (arith, length-names c.args.h (let fact : length c.args.h.accounts ≡ 32 = search (rules, length_unmap) depth 8 in fact) c.requires.few)) in
     sym (ap none_twice (sym whole) ∙ l.invariant.1)

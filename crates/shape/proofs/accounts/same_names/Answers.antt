@@ -6,12 +6,6 @@ use lib.ListN.{length}
 use borrow.Author.Rules.{rules}
 use Rattle.shape.proofs.accounts.same_names.Goals as goal
 
-pub ??slice-bounds-same-end : goal.??Need-slice-bounds-same-end
-??slice-bounds-same-end c = omega (arith, (let fact : length c.args.a.name ≡ 32 = search rules in fact))
-
-pub ??slice-bounds-same-end-2 : goal.??Need-slice-bounds-same-end-2
-??slice-bounds-same-end-2 c = omega (arith, (let fact : length c.args.b.name ≡ 32 = search rules in fact))
-
 pub returns : goal.returns
 returns c =
     let s = c.args in

@@ -22,7 +22,7 @@ overflow_add-above c =
       arith,
       c.units_above-above.ensures,
       c.loop-k.invariant.1.high,
-      position_most (account_at c.args.h c.loop-k.k) ((let fact : SoundAccount (account_at c.args.h c.loop-k.k) = judged_at c.args.h ((let fact : length c.args.h.accounts ≡ 32 = search (rules, length_unmap) depth 8 in fact)) c.requires c.loop-k.k (omega arith) in fact)),
+      position_most (account_at c.args.h c.loop-k.k) ((let fact : SoundAccount (account_at c.args.h c.loop-k.k) = judged_at c.args.h (let fact : length c.args.h.accounts ≡ 32 = search (rules, length_unmap) depth 8 in fact) c.requires c.loop-k.k (omega arith) in fact)),
     )
 
 pub overflow_add-below : goal.overflow_add-below
@@ -30,13 +30,13 @@ overflow_add-below c = omega (arith, c.units_below-below.ensures.1, c.loop-k.inv
 
 pub overflow_add-rest : goal.overflow_add-rest
 overflow_add-rest c =
-    omega (arith, c.loop-k.invariant.1.small, ((let fact : SoundAccount (account_at c.args.h c.loop-k.k) = judged_at c.args.h ((let fact : length c.args.h.accounts ≡ 32 = search (rules, length_unmap) depth 8 in fact)) c.requires c.loop-k.k (omega arith) in fact)).remainder)
+    omega (arith, c.loop-k.invariant.1.small, ((let fact : SoundAccount (account_at c.args.h c.loop-k.k) = judged_at c.args.h (let fact : length c.args.h.accounts ≡ 32 = search (rules, length_unmap) depth 8 in fact) c.requires c.loop-k.k (omega arith) in fact)).remainder)
 
 pub returns-then-below-gt3300000000000000000 : goal.returns-then-below-gt3300000000000000000
 returns-then-below-gt3300000000000000000 c =
     let h = c.args.h in
     let l = c.loop-k in
-    sums_over (accounts_of h) l.k l.above l.below l.rest l.invariant.1 (account_at h l.k) ((let fact : c.loop-k.k < length (accounts_of c.args.h) = omega (arith, length_accounts c.args.h ((let fact : length c.args.h.accounts ≡ 32 = search (rules, length_unmap) depth 8 in fact)) c.requires.few) in fact))
+    sums_over (accounts_of h) l.k l.above l.below l.rest l.invariant.1 (account_at h l.k) ((let fact : c.loop-k.k < length (accounts_of c.args.h) = omega (arith, length_accounts c.args.h (let fact : length c.args.h.accounts ≡ 32 = search (rules, length_unmap) depth 8 in fact) c.requires.few) in fact))
     (account_at_lem h l.k (omega arith)) (rw (← c.units_below-below.ensures.0) c.if-below-gt3300000000000000000.true)
 
 pub loop-k-preserved : goal.loop-k-preserved
@@ -45,9 +45,9 @@ loop-k-preserved c =
     let l = c.loop-k in (
       omega arith,
       rw (c.units_above-above.ensures, c.units_below-below.ensures.0)
-          (sums_more (accounts_of h) l.k l.above l.below l.rest l.invariant.1 (account_at h l.k) ((let fact : c.loop-k.k < length (accounts_of c.args.h) = omega (arith, length_accounts c.args.h ((let fact : length c.args.h.accounts ≡ 32 = search (rules, length_unmap) depth 8 in fact)) c.requires.few) in fact))
+          (sums_more (accounts_of h) l.k l.above l.below l.rest l.invariant.1 (account_at h l.k) ((let fact : c.loop-k.k < length (accounts_of c.args.h) = omega (arith, length_accounts c.args.h (let fact : length c.args.h.accounts ≡ 32 = search (rules, length_unmap) depth 8 in fact) c.requires.few) in fact))
           (account_at_lem h l.k (omega arith))
-          ((let fact : SoundAccount (account_at c.args.h c.loop-k.k) = judged_at c.args.h ((let fact : length c.args.h.accounts ≡ 32 = search (rules, length_unmap) depth 8 in fact)) c.requires c.loop-k.k (omega arith) in fact)) (rw (← c.units_below-below.ensures.0) c.if-below-gt3300000000000000000.false)),
+          ((let fact : SoundAccount (account_at c.args.h c.loop-k.k) = judged_at c.args.h (let fact : length c.args.h.accounts ≡ 32 = search (rules, length_unmap) depth 8 in fact) c.requires c.loop-k.k (omega arith) in fact)) (rw (← c.units_below-below.ensures.0) c.if-below-gt3300000000000000000.false)),
     )
 
 pub returns : goal.returns
@@ -55,4 +55,4 @@ returns c =
     let h = c.args.h in
     let l = c.loop-k in
     sums-done (accounts_of h) l.k l.above l.below l.rest l.invariant.1
-    (omega (arith, length_accounts h ((let fact : length c.args.h.accounts ≡ 32 = search (rules, length_unmap) depth 8 in fact)) c.requires.few))
+    (omega (arith, length_accounts h (let fact : length c.args.h.accounts ≡ 32 = search (rules, length_unmap) depth 8 in fact) c.requires.few))

@@ -20,10 +20,10 @@ pub overflow_add-result : goal.overflow_add-result
 overflow_add-result c = omega (arith, (let fact : Added (accounts_of c.args.h) c.add_up-s.result = sums_right (accounts_of c.args.h) c.add_up-s.result c.add_up-s.ensures (not-false _ c.if-not-s.false) in fact), (let fact : c.add_up-s.result.above * 10000 + c.add_up-s.result.rest ≤ 32 * highest_cap = let d = (let fact : Added (accounts_of c.args.h) c.add_up-s.result = sums_right (accounts_of c.args.h) c.add_up-s.result c.add_up-s.ensures (not-false _ c.if-not-s.false) in fact) in omega (arith, d.ups, d.rests, most_above (accounts_of c.args.h) c.requires.0.each, few_accounts c.args.h c.requires.0.few) in fact))
 
 pub overflow_add-result-2 : goal.overflow_add-result-2
-overflow_add-result-2 c = omega (arith, ((let fact : Added (accounts_of c.args.h) c.add_up-s.result = sums_right (accounts_of c.args.h) c.add_up-s.result c.add_up-s.ensures (not-false _ c.if-not-s.false) in fact)).low)
+overflow_add-result-2 c = omega (arith, (let fact : Added (accounts_of c.args.h) c.add_up-s.result = sums_right (accounts_of c.args.h) c.add_up-s.result c.add_up-s.ensures (not-false _ c.if-not-s.false) in fact).low)
 
 pub overflow_add-result-3 : goal.overflow_add-result-3
-overflow_add-result-3 c = omega (arith, ((let fact : Added (accounts_of c.args.h) c.add_up-s.result = sums_right (accounts_of c.args.h) c.add_up-s.result c.add_up-s.ensures (not-false _ c.if-not-s.false) in fact)).low)
+overflow_add-result-3 c = omega (arith, (let fact : Added (accounts_of c.args.h) c.add_up-s.result = sums_right (accounts_of c.args.h) c.add_up-s.result c.add_up-s.ensures (not-false _ c.if-not-s.false) in fact).low)
 
 pub returns : goal.returns
 returns c =

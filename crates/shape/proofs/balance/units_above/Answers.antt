@@ -8,10 +8,10 @@ use Rattle.octets.proofs.Integers.{neg_split', nonneg_split, nonneg_bits}
 use Rattle.shape.proofs.balance.units_above.Goals as goal
 
 pub returns-then-units-lt0 : goal.returns-then-units-lt0
-returns-then-units-lt0 c = sym (neg_split' c.args.p.units (rw ((let fact : to_z w64 (of_z w64 c.args.p.units) ≡ c.args.p.units = to_z-of_z (record { sfits = c.struct_told.given.0.1 }) in fact)) at c.if-units-lt0.true)).0
+returns-then-units-lt0 c = sym (neg_split' c.args.p.units (rw ((to_z-of_z {w = w64} {z = c.args.p.units} (search rules))) at c.if-units-lt0.true)).0
 
 pub returns : goal.returns
 returns c =
     let z = c.args.p.units in
-    let some = rw ((let fact : to_z w64 (of_z w64 c.args.p.units) ≡ c.args.p.units = to_z-of_z (record { sfits = c.struct_told.given.0.1 }) in fact)) at c.if-units-lt0.false in
-    (rw ((let fact : to_z w64 (of_z w64 c.args.p.units) ≡ c.args.p.units = to_z-of_z (record { sfits = c.struct_told.given.0.1 }) in fact)) at c.unsigned.ensures) ∙ sym ((nonneg_split z some).1 ∙ nonneg_bits z some)
+    let some = rw ((to_z-of_z {w = w64} {z = c.args.p.units} (search rules))) at c.if-units-lt0.false in
+    (rw ((to_z-of_z {w = w64} {z = c.args.p.units} (search rules))) at c.unsigned.ensures) ∙ sym ((nonneg_split z some).1 ∙ nonneg_bits z some)

@@ -9,7 +9,7 @@ use Rattle.vaikshurd.proofs.calls.vaik_join.Goals as goal
 pub returns-then-not-is_formed : goal.returns-then-not-is_formed
 returns-then-not-is_formed c =
     rw c.packed.ensures
-    (formless c.args.head.now c.args.opened.now c.args.ended.now (let fact : Book → Outcome = λ b. join_step b c.args.name.now c.args.cap.now in fact)
+    (formless c.args.head.now c.args.opened.now c.args.ended.now (λ b. join_step b c.args.name.now c.args.cap.now)
     _ c.is_formed.ensures c.if-not-is_formed.true-raw)
 
 pub decode-h-requires : goal.decode-h-requires
@@ -22,5 +22,5 @@ done-requires c =
 pub returns : goal.returns
 returns c =
     stepped c.args.head.now c.args.opened.now c.args.ended.now
-    _ c.decode-h.ensures c.join-r.result c.done.ensures (let fact : Book → Outcome = λ b. join_step b c.args.name.now c.args.cap.now in fact)
+    _ c.decode-h.ensures c.join-r.result c.done.ensures (λ b. join_step b c.args.name.now c.args.cap.now)
     _ c.is_formed.ensures c.if-not-is_formed.false-raw c.join-r.ensures

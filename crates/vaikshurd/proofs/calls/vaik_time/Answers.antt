@@ -10,7 +10,7 @@ pub returns-then-not-is_formed : goal.returns-then-not-is_formed
 returns-then-not-is_formed c =
     let s = c.args in (
       rw c.packed.ensures
-          (formless s.head.now s.opened.now s.ended.now ((let fact : Book → Outcome = λ b. (time_step b c.args.list.now c.args.instant.now).outcome in fact)) _ c.is_formed.ensures c.if-not-is_formed.true-raw),
+          (formless s.head.now s.opened.now s.ended.now ((λ b. (time_step b c.args.list.now c.args.instant.now).outcome)) _ c.is_formed.ensures c.if-not-is_formed.true-raw),
       list_formless s.head.now s.opened.now s.ended.now s.list.now s.instant.now
           _ c.is_formed.ensures c.if-not-is_formed.true-raw,
     )

@@ -12,4 +12,4 @@ written-requires c = rw c.write_datetime.ensures.0 (datetime_short _ _)
 pub returns : goal.returns
 returns c =
     let w = c.write_datetime.ensures in
-    rw (c.written.ensures, w.1, w.0, to_z-of_z (search rules))
+    rw (c.written.ensures, w.1, w.0, to_z-of_z (let fact : SFits w64 c.args.instant = search rules in fact))
