@@ -1,6 +1,7 @@
 // The readers, the writers and the hash as C calls, for the tests and benchmarks outside Rattle. Proved safe and ending: what they
 // hand over is compared there, byte for byte, with a second implementation.
 #![tactic(auto)]
+
 use amount::{Amount, AmountRead};
 use datetime::InstantRead;
 use form::{Verdict, Written};
@@ -29,7 +30,7 @@ fn packed(w: Written) -> u64 {
 // Copies a value into the lent place, if it has room for it.
 fn hand_over(value: &[u8], out: &mut [u8]) {
     if value.len() <= out.len() {
-        bytes::copy(value, out);
+        out[..value.len()].copy_from_slice(value);
     }
 }
 
