@@ -17,7 +17,7 @@ returns-then-not-fits c =
     let a = c in
     rw c.reply.ensures (formless (book_of a.args.h a.args.opened.now a.args.ended.now) a.args.sender.now a.args.id.now a.args.code.now a.requires
     (first_refused a.args.sender.now a.args.id.now a.args.code.now
-    (sym ((let fact : c.fits-2.result && c.fits.result ≡ first_two c.args.sender.now c.args.id.now c.args.code.now = ap₂ ◌&&◌ (c.fits-2.ensures ∙ ap fits c.read_name.ensures) (c.fits.ensures ∙ ap (λ (r : IdRead). fits r.verdict) c.read_id-id_read.ensures ∙ ap fits (id_verdict c.args.id.now)) in fact)) ∙ not-true (c.fits-2.result && c.fits.result) c.if-not-fits.true-raw)))
+    (sym ((let fact : c.fits.result && c.fits-2.result ≡ first_two c.args.sender.now c.args.id.now c.args.code.now = ap₂ ◌&&◌ (c.fits.ensures ∙ ap fits c.read_name.ensures) (c.fits-2.ensures ∙ ap (λ (r : IdRead). fits r.verdict) c.read_id-id_read.ensures ∙ ap fits (id_verdict c.args.id.now)) in fact)) ∙ not-true (c.fits.result && c.fits-2.result) c.if-not-fits.true-raw)))
 
 pub returns-in-Refused : goal.returns-in-Refused
 returns-in-Refused c =
@@ -30,7 +30,7 @@ pub returns-in-Value : goal.returns-in-Value
 returns-in-Value c =
     let a = c in
     let read = sym c.read_code-read.ensures ∙ c.in-Value.is in
-    let two = sym ((let fact : c.fits-2.result && c.fits.result ≡ first_two c.args.sender.now c.args.id.now c.args.code.now = ap₂ ◌&&◌ (c.fits-2.ensures ∙ ap fits c.read_name.ensures) (c.fits.ensures ∙ ap (λ (r : IdRead). fits r.verdict) c.read_id-id_read.ensures ∙ ap fits (id_verdict c.args.id.now)) in fact)) ∙ not-false (c.fits-2.result && c.fits.result) c.if-not-fits.false-raw in
+    let two = sym ((let fact : c.fits.result && c.fits-2.result ≡ first_two c.args.sender.now c.args.id.now c.args.code.now = ap₂ ◌&&◌ (c.fits.ensures ∙ ap fits c.read_name.ensures) (c.fits-2.ensures ∙ ap (λ (r : IdRead). fits r.verdict) c.read_id-id_read.ensures ∙ ap fits (id_verdict c.args.id.now)) in fact)) ∙ not-false (c.fits.result && c.fits-2.result) c.if-not-fits.false-raw in
     c.settle.ensures
     ∙ ruled (book_of a.args.h a.args.opened.now a.args.ended.now) a.args.sender.now a.args.id.now a.args.code.now a.requires
     (none_refused a.args.sender.now a.args.id.now a.args.code.now two _ read) _ _

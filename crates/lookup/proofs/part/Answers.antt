@@ -19,17 +19,11 @@ overflow_mul-at c = omega (arith, (let fact : c.in-Opened.k * 160 + 160 ≤ leng
 pub overflow_add-end : goal.overflow_add-end
 overflow_add-end c = omega (arith, (let fact : c.in-Opened.k * 160 + 160 ≤ length c.args.opened.now = in_opened (book_of c.args.h c.args.opened.now c.args.ended.now) c.args.id.now (let fact : length c.args.h.accounts ≡ 32 = search (rules, length_unmap) depth 8 in fact) _ ((let fact : lookup_place (book_of c.args.h c.args.opened.now c.args.ended.now) c.args.id.now ≡ Opened c.in-Opened.k = sym c.place-found.ensures ∙ c.in-Opened.is in fact)) in fact))
 
-pub ??slice-bounds-result-end : goal.??Need-slice-bounds-result-end
-??slice-bounds-result-end c = (let fact : c.in-Opened.k * 160 + 160 ≤ length c.args.opened.now = in_opened (book_of c.args.h c.args.opened.now c.args.ended.now) c.args.id.now (let fact : length c.args.h.accounts ≡ 32 = search (rules, length_unmap) depth 8 in fact) _ ((let fact : lookup_place (book_of c.args.h c.args.opened.now c.args.ended.now) c.args.id.now ≡ Opened c.in-Opened.k = sym c.place-found.ensures ∙ c.in-Opened.is in fact)) in fact)
-
 pub overflow_mul-at-in-Ended : goal.overflow_mul-at-in-Ended
 overflow_mul-at-in-Ended c = omega (arith, (let fact : c.in-Ended.k * 160 + 160 ≤ length c.args.ended.now = in_finished (book_of c.args.h c.args.opened.now c.args.ended.now) c.args.id.now (let fact : length c.args.h.accounts ≡ 32 = search (rules, length_unmap) depth 8 in fact) _ ((let fact : lookup_place (book_of c.args.h c.args.opened.now c.args.ended.now) c.args.id.now ≡ Ended c.in-Ended.k = sym c.place-found.ensures ∙ c.in-Ended.is in fact)) in fact))
 
 pub overflow_add-end-in-Ended : goal.overflow_add-end-in-Ended
 overflow_add-end-in-Ended c = omega (arith, (let fact : c.in-Ended.k * 160 + 160 ≤ length c.args.ended.now = in_finished (book_of c.args.h c.args.opened.now c.args.ended.now) c.args.id.now (let fact : length c.args.h.accounts ≡ 32 = search (rules, length_unmap) depth 8 in fact) _ ((let fact : lookup_place (book_of c.args.h c.args.opened.now c.args.ended.now) c.args.id.now ≡ Ended c.in-Ended.k = sym c.place-found.ensures ∙ c.in-Ended.is in fact)) in fact))
-
-pub ??slice-bounds-result-end-2 : goal.??Need-slice-bounds-result-end-2
-??slice-bounds-result-end-2 c = (let fact : c.in-Ended.k * 160 + 160 ≤ length c.args.ended.now = in_finished (book_of c.args.h c.args.opened.now c.args.ended.now) c.args.id.now (let fact : length c.args.h.accounts ≡ 32 = search (rules, length_unmap) depth 8 in fact) _ ((let fact : lookup_place (book_of c.args.h c.args.opened.now c.args.ended.now) c.args.id.now ≡ Ended c.in-Ended.k = sym c.place-found.ensures ∙ c.in-Ended.is in fact)) in fact)
 
 pub returns-in-Opened : goal.returns-in-Opened
 returns-in-Opened c =
@@ -41,3 +35,9 @@ returns-in-Ended c =
 
 pub returns-in-Nowhere : goal.returns-in-Nowhere
 returns-in-Nowhere c = rw (← c.place-found.ensures, c.in-Nowhere.is)
+
+pub slice_bounds-result-end : goal.slice_bounds-result-end
+slice_bounds-result-end c = let fact : c.in-Opened.k * 160 + 160 ≤ length c.args.opened.now = in_opened (book_of c.args.h c.args.opened.now c.args.ended.now) c.args.id.now (let fact : length c.args.h.accounts ≡ 32 = search (rules, length_unmap) depth 8 in fact) _ (sym c.place-found.ensures ∙ c.in-Opened.is) in omega arith
+
+pub slice_bounds-result-end-in-Ended : goal.slice_bounds-result-end-in-Ended
+slice_bounds-result-end-in-Ended c = let fact : c.in-Ended.k * 160 + 160 ≤ length c.args.ended.now = in_finished (book_of c.args.h c.args.opened.now c.args.ended.now) c.args.id.now (let fact : length c.args.h.accounts ≡ 32 = search (rules, length_unmap) depth 8 in fact) _ (sym c.place-found.ensures ∙ c.in-Ended.is) in omega arith

@@ -34,5 +34,5 @@ returns-in-Refused c =
 pub returns-in-Value : goal.returns-in-Value
 returns-in-Value c =
     let v = instant_value c.args.time.now _ (sym c.read_datetime-read.ensures ∙ c.in-Value.is) in
-    rw (c.start.ensures, to_z-of_z (let fact : SFits w64 c.in-Value.t = record { sfits = c.known_told-1.given.0.1 } in fact), sym v.1)
+    rw (c.start.ensures, to_z-of_z (let fact : SFits w64 c.in-Value.t = search rules in fact), sym v.1)
     (open_started (book_of c.args.h c.args.opened.now c.args.ended.now) c.args.currency.now c.args.time.now ((let fact : is_of currency_form c.args.currency.now ≡ true = (let fact : is_of currency_form c.args.currency.now ≡ c.fits.result = sym (c.fits.ensures ∙ ap fits c.read_currency.ensures) in fact) ∙ not-false _ c.if-not-fits.false-raw in fact)) v.0)
