@@ -262,7 +262,7 @@ pub fn prepare(
 ) -> Answered
     ensures { outcome result opened.new ended.now ≡ prepare_step (book_of h opened.old ended.now)
         (record {
-          id = id.entry.now;
+          id = id.now;
           payer = payer.now;
           payee = payee.now;
           currency = currency.now;

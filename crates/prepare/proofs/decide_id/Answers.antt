@@ -26,9 +26,6 @@ overflow_mul-k-in-Opened c = record { fits = omega (arith, (let fact : c.in-Open
 pub overflow_add-k : goal.overflow_add-k
 overflow_add-k c = record { fits = omega (arith, (let fact : c.in-Opened.k * 160 + 160 ≤ length c.args.opened.now = let s = c in opened_inside (book_of s.args.h s.args.opened.now s.args.ended.now) s.requires.sound s.args.c.id _ ((let fact : let s = c in where_is (book_of s.args.h s.args.opened.now s.args.ended.now) s.args.c.id ≡ Opened c.in-Opened.k = sym c.find-place.ensures ∙ c.in-Opened.is in fact)) in fact)) }
 
-pub ??slice-bounds-on-record-end : goal.??Need-slice-bounds-on-record-end
-??slice-bounds-on-record-end c = omega (arith, (let fact : c.in-Opened.k * 160 + 160 ≤ length c.args.opened.now = let s = c in opened_inside (book_of s.args.h s.args.opened.now s.args.ended.now) s.requires.sound s.args.c.id _ ((let fact : let s = c in where_is (book_of s.args.h s.args.opened.now s.args.ended.now) s.args.c.id ≡ Opened c.in-Opened.k = sym c.find-place.ensures ∙ c.in-Opened.is in fact)) in fact))
-
 pub on_record-requires : goal.on_record-requires
 on_record-requires c =
     let s = c in
@@ -43,9 +40,6 @@ overflow_mul-k-in-Ended-2 c = record { fits = omega (arith, (let fact : c.in-End
 
 pub overflow_add-k-in-Ended : goal.overflow_add-k-in-Ended
 overflow_add-k-in-Ended c = record { fits = omega (arith, (let fact : c.in-Ended.k * 160 + 160 ≤ length c.args.ended.now = let s = c in ended-inside (book_of s.args.h s.args.opened.now s.args.ended.now) s.requires.sound s.args.c.id _ ((let fact : let s = c in where_is (book_of s.args.h s.args.opened.now s.args.ended.now) s.args.c.id ≡ Ended c.in-Ended.k = sym c.find-place.ensures ∙ c.in-Ended.is in fact)) in fact)) }
-
-pub ??slice-bounds-on-record-end-2 : goal.??Need-slice-bounds-on-record-end-2
-??slice-bounds-on-record-end-2 c = omega (arith, (let fact : c.in-Ended.k * 160 + 160 ≤ length c.args.ended.now = let s = c in ended-inside (book_of s.args.h s.args.opened.now s.args.ended.now) s.requires.sound s.args.c.id _ ((let fact : let s = c in where_is (book_of s.args.h s.args.opened.now s.args.ended.now) s.args.c.id ≡ Ended c.in-Ended.k = sym c.find-place.ensures ∙ c.in-Ended.is in fact)) in fact))
 
 pub on_record-requires-in-Ended : goal.on_record-requires-in-Ended
 on_record-requires-in-Ended c =
