@@ -12,10 +12,7 @@ use Rattle.form.specs.Listings.{amount_form, id_form, date_time_form, condition_
 use Rattle.amount.specs.declared.Amount.{Amount}
 use Rattle.amount.specs.Amount.{ten_thousandths, amount_of}
 use Rattle.amount.proofs.Theorems as amounts
-use Rattle.uuid_text.specs.Id as ids
 use Rattle.uuid_text.specs.Id.{id_of, byte_at}
-use Rattle.datetime.specs.declared.InstantRead.TheVariants as instants
-use Rattle.base64url.specs.Condition as conditions
 use Rattle.base64url.proofs.Theorems.{held}
 use Rattle.sha256.proofs.Facts.{length-sha256}
 use Rattle.account.specs.Position.{InRange}

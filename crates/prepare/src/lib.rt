@@ -1,5 +1,6 @@
 // Prepare: the payer's amount is reserved under a new record, in the lowest free slot.
 #![tactic(auto)]
+
 mod fields;
 
 ghost use Rattle.std.specs.Prelude.{◌≡◌, true, cond, eqb, ◌+◌, ◌*◌, ◌≤◌, ◌<◌, length};

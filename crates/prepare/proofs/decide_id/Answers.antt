@@ -3,9 +3,7 @@ use Prim.Native.Nat.{◌+◌, ◌*◌, ◌≤◌}
 use mathlib.Core.Path.{◌≡◌, sym, ◌∙◌}
 use native.Mathlib.Omega.{arith}
 use lib.ListN.{length}
-use borrow.Author.Rules.{rules}
 use Rattle.record.proofs.Rows.{lent_row}
-use Rattle.shape.specs.Reading.{Book}
 use Rattle.book.specs.declared.Place.TheVariants.{Opened, Ended, Nowhere}
 use Rattle.book.specs.Step.{book_of, where_is}
 use Rattle.book.proofs.Held.{held_at}

@@ -1,7 +1,6 @@
 -- `decide_parties`: each check, with those before it not holding.
 use mathlib.Core.Path.{sym, ◌∙◌}
 use borrow.Author.Tests.{eq-eqb, ne_eqb, not-true, not-false}
-use borrow.Author.Rules.{rules}
 use Rattle.prepare.proofs.decide_parties.Goals as goal
 
 pub returns-then-p-count : goal.returns-then-p-count

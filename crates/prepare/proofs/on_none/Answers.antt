@@ -1,6 +1,5 @@
 -- `on_none`: by whether the parties were refused.
 use mathlib.Core.Path.{sym, ◌∙◌}
-use borrow.Author.Rules.{rules}
 use Rattle.prepare.specs.Inner.{fresh_decision, on_none}
 use Rattle.prepare.proofs.on_none.Goals as goal
 

@@ -1,6 +1,5 @@
 -- `on_record`: by whether the parties were refused.
 use mathlib.Core.Path.{sym, ◌∙◌}
-use borrow.Author.Rules.{rules}
 use Rattle.prepare.proofs.on_record.Goals as goal
 
 pub returns-then-is_done : goal.returns-then-is_done

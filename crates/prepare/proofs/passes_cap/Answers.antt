@@ -1,7 +1,6 @@
 -- `passes_cap`: the raised position is not at most the cap.
 use mathlib.Core.Path.{ap, ◌∙◌}
 use mathlib.Core.Bool.{not}
-use borrow.Author.Rules.{rules}
 use Rattle.account.specs.Head.{account_at}
 use Rattle.account.proofs.Positions.{held_remainder}
 use Rattle.prepare.proofs.Tests.{above_cap}

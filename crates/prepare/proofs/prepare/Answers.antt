@@ -11,7 +11,7 @@ use Rattle.shape.proofs.Sound.{sound}
 use Rattle.book.specs.Step.{book_of}
 use Rattle.book.proofs.Replies.{out_of_shape_lem, not_in_form}
 use Rattle.prepare.specs.Effect.{reserved, prepare_step}
-use Rattle.prepare.specs.Inner.{names_fit, texts_fit, values_in, prepared_by}
+use Rattle.prepare.specs.Inner.{names_fit, texts_fit, prepared_by}
 use Rattle.prepare.proofs.Texts.{in_form_lem, values_ranged}
 use Rattle.prepare.proofs.Stepped.{tested, stepped}
 use Rattle.prepare.proofs.prepare.Goals as goal
@@ -84,7 +84,7 @@ settle-requires c =
     let ok = not-false _ c.if-not-read.false in (
       sound b long shaped,
       rw (c.content-read.ensures.content ok)
-      (values_ranged a.id.now a.amount.now a.condition.now a.expiration.now a.packet.now (sym c.content-read.ensures.ok ∙ ok)),
+          (values_ranged a.id.now a.amount.now a.condition.now a.expiration.now a.packet.now (sym c.content-read.ensures.ok ∙ ok)),
     )
 
 pub returns : goal.returns

@@ -4,7 +4,6 @@ use mathlib.Core.Path.{◌≡◌, ap, ◌∙◌}
 use native.Mathlib.Omega.{arith}
 use lib.ListN.{length}
 use lib.Seq.{sets}
-use borrow.Author.Rules.{rules}
 use Rattle.record.proofs.Fields.{length-new}
 use Rattle.record.proofs.Rows.{lent_row, row_home}
 use Rattle.record.specs.Layout.{new_row}

@@ -1,5 +1,4 @@
 -- `same_content`: the parties' accounts are in use, so their names are the head's.
-use borrow.Author.Rules.{rules}
 use Rattle.shape.specs.Reading.{transfer_of}
 use Rattle.shape.proofs.Names.{name_at}
 use Rattle.prepare.proofs.same_content.Goals as goal

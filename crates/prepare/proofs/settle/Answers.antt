@@ -36,7 +36,7 @@ module _ (b : Book) (payer payee currency : List ℕ) (c : Content) where
       → answer ≡ party_rules b.head payer payee currency p q
       → d ≡ on_id b payer payee c p answer (held_row b c.id)
       → d ≡ on_id b payer payee c (place_of b.head payer)
-          (party_rules b.head payer payee currency (place_of b.head payer) (place_of b.head payee)) (held_row b c.id)
+      (party_rules b.head payer payee currency (place_of b.head payer) (place_of b.head payee)) (held_row b c.id)
   decided p q answer d at_p at_q e f =
       f ∙ ap₂ (λ (n : ℕ) (x : Answer). on_id b payer payee c n x (held_row b c.id)) at_p (parties p q answer at_p at_q e)
 

@@ -1,8 +1,6 @@
 -- `taken`: the count over the slots before k.
-use Prim.Native.Nat.{◌-◌, ◌≤◌}
-use mathlib.Core.Path.{◌≡◌, refl, ap, ◌∙◌}
+use mathlib.Core.Path.{refl, ap, ◌∙◌}
 use native.Mathlib.Omega.{arith}
-use lib.ListN.{take}
 use lib.Seq.{take_all}
 use borrow.Author.Rules.{rules}
 use Rattle.octets.specs.Lists.{count}

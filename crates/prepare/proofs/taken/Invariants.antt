@@ -1,14 +1,9 @@
 use Prim.Native.Nat.{◌-◌, ◌≤◌}
-use mathlib.Core.Path.{◌≡◌, refl, ap, ◌∙◌}
-use native.Mathlib.Omega.{arith}
+use mathlib.Core.Path.{◌≡◌}
 use lib.ListN.{take}
-use lib.Seq.{take_all}
-use borrow.Author.Rules.{rules}
 use Rattle.octets.specs.Lists.{count}
 use Rattle.record.specs.Rows.{rows}
-use Rattle.record.proofs.Rows.{length-rows}
 use Rattle.shape.specs.Reading.{is_taken}
-use Rattle.prepare.proofs.Tests.{count-slot}
 use Rattle.prepare.proofs.taken.Given as goal
 
 abbrev pub invariant-loop-k : goal.invariant-loop-k

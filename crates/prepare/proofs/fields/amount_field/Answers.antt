@@ -1,7 +1,6 @@
 -- `amount_field`: by what the reader answers.
 use mathlib.Core.Path.{sym, ◌∙◌}
 use mathlib.Core.Bool.{false≢true}
-use borrow.Author.Rules.{rules}
 use Rattle.rules.proofs.Fields.{amount-value, amount_refused}
 use Rattle.prepare.proofs.fields.amount_field.Goals as goal
 

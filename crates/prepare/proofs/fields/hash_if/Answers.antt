@@ -1,7 +1,6 @@
 -- `hash_if`: by whether it is wanted.
 use mathlib.Core.Path.{sym, ◌∙◌}
 use mathlib.Core.Bool.{false≢true}
-use borrow.Author.Rules.{rules}
 use Rattle.prepare.proofs.fields.hash_if.Goals as goal
 
 pub returns : goal.returns
