@@ -99,7 +99,7 @@ pub extern "C" fn vaik_prepare(
 ) -> u64
     ensures { left result head.new opened.new ended.now
         ≡ called head.old opened.old ended.now (λ b. prepare_step b (record {
-          id = id.entry.now;
+          id = id.now;
           payer = payer.now;
           payee = payee.now;
           currency = currency.now;
