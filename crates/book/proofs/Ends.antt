@@ -10,7 +10,7 @@ use lib.Seq.{sets, get_or-take, get_or-drop, length-sets, length-take-le, take-s
 use lib.IntN.{pos, ◌-ℤ◌}
 use lib.Signed.{mag}
 use borrow.Author.Tests.{ne_eqb, eqb-true, eqb-false, ltb-true, ltb-false}
-use Rattle.octets.specs.Parts.{same, zeros, all_zero}
+use Rattle.octets.specs.Parts.{zeros, all_zero}
 use Rattle.octets.specs.Lists.{count, sum}
 use Rattle.octets.specs.Numbers.{number}
 use Rattle.octets.specs.Integers.{up, dn}

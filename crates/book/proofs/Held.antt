@@ -1,12 +1,11 @@
 -- The record of an id: where the search finds it is what the book holds under it.
-use Prim.Native.Nat.{ℕ, ◌+◌, ◌*◌, ◌<◌, ◌≤◌}
+use Prim.Native.Nat.{ℕ, ◌<◌, ◌≤◌}
 use mathlib.Core.Path.{◌≡◌, refl, ap, ◌∙◌}
 use mathlib.Core.Bool.{Bool, true, false, cond}
 use mathlib.Core.List.{List, [], ◌∷◌, ◌++◌}
 use mathlib.Core.Option.{Option, none, some}
 use native.Mathlib.Omega.{arith}
 use lib.Dec.{ltb}
-use lib.ListN.{length, get_or}
 use borrow.Author.Tests.{ltb-true, ltb-false}
 use Rattle.octets.specs.Lists.{first, index}
 use Rattle.octets.proofs.Search.{first_at, first-none}
@@ -14,7 +13,6 @@ use Rattle.record.specs.Layout.{Row}
 use Rattle.record.specs.Rows.{rows, row, holds}
 use Rattle.record.proofs.Rows.{length-rows, rows_at}
 use Rattle.shape.specs.Reading.{Book, open_rows, ended_rows, held_row}
-use Rattle.book.specs.declared.Place.{Place}
 use Rattle.book.specs.declared.Place.TheVariants.{Opened, Ended, Nowhere}
 use Rattle.book.specs.Step.{slot_of, place_of, where_is}
 use Rattle.book.specs.Inner.{row_at}

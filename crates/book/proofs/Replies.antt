@@ -1,11 +1,10 @@
 -- What a call is answered before its rules: 21 and 1; and that the rest is its rules.
-use mathlib.Core.Path.{◌≡◌, refl, sym, ap, ◌∙◌}
-use mathlib.Core.Bool.{Bool, true, false, cond, not, ◌&&◌}
-use mathlib.Core.List.{List}
+use mathlib.Core.Path.{◌≡◌}
+use mathlib.Core.Bool.{true, false, cond, not, ◌&&◌}
 use Rattle.rules.specs.declared.Answer.TheVariants.{NotInForm, OutOfShape}
 use Rattle.rules.specs.Answers.{is_done}
 use Rattle.rules.specs.Calls.{Call, in_form}
-use Rattle.rules.specs.Rules.{tests_shape, rules, mark_of, answer_to, mark_to}
+use Rattle.rules.specs.Rules.{tests_shape, rules, mark_of}
 use Rattle.shape.specs.Reading.{Book}
 use Rattle.shape.specs.Shape.{shape}
 use Rattle.shape.specs.Seen.{seen}

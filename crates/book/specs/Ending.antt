@@ -1,5 +1,5 @@
 -- How a transfer ends (01, "The two books": "An ended record moves to the next place of the finished book").
-use Rattle.std.specs.Prelude.{ℕ, ◌+◌, ◌*◌, List}
+use Rattle.std.specs.Prelude.{ℕ, ◌+◌, ◌*◌}
 use Rattle.std.proofs.lemmas.List.Edits.{sets}
 use Rattle.octets.specs.Parts.{zeros}
 use Rattle.amount.specs.declared.Amount.{Amount}

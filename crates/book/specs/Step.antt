@@ -1,6 +1,5 @@
 -- What a call leaves: its answer and mark by the rules, and the book, changed only where the answer is 0.
-use Rattle.std.specs.Prelude.{ℕ, Bool, cond, List, ◌++◌, ltb}
-use Rattle.std.proofs.Math.Option.{Option}
+use Rattle.std.specs.Prelude.{ℕ, cond, List, ltb}
 use Rattle.octets.specs.Lists.{index}
 use Rattle.account.specs.declared.Head.{Head}
 use Rattle.record.specs.Rows.{holds}

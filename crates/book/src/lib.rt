@@ -1,5 +1,6 @@
 // What the calls share: an answer with the head that it leaves, the record of an id, the payee's own word, the end of a record.
 #![tactic(auto)]
+
 ghost use Rattle.std.specs.Prelude.{◌≡◌, ◌+◌, ◌*◌, ◌≤◌, ◌<◌, length, get_or, []};
 ghost use Rattle.std.proofs.lemmas.List.Edits.{sets};
 ghost use Rattle.octets.specs.Parts.{same, zeros};

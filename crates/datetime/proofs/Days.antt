@@ -9,7 +9,7 @@ use native.Mathlib.Decide.{ℕ_discrete, dec_lt}
 use lib.Dec.{T, eqb, leb, leb→le}
 use borrow.Author.Tests.{eq-eqb, ne_eqb, leb-true, leb-false}
 use Rattle.octets.proofs.Computed.{both, both_left, both_right, below, below_at}
-use Rattle.datetime.specs.Calendar.{leap, year_days, month_days, before, last_begun, year_of}
+use Rattle.datetime.specs.Calendar.{year_days, month_days, before, last_begun, year_of}
 use Rattle.datetime.specs.Plain.{before_century}
 
 -- numbers that lie between two ends, by a computed test of those counted from `start`

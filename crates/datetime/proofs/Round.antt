@@ -1,6 +1,6 @@
 -- The time of a date, both ways: its range, and an instant's text read back.
 use mathlib.Core.Path.{◌≡◌, refl, sym, ap, subst, subst⁻¹, ◌∙◌}
-use mathlib.Core.Bool.{true, false, cond}
+use mathlib.Core.Bool.{true}
 use mathlib.Core.List.{[], ◌∷◌}
 use Prim.Native.Nat.{ℕ, suc, suc-le-suc, ◌+◌, ◌-◌, ◌*◌, ◌/◌, ◌%◌, ◌≤◌, ◌<◌}
 use Prim.Native.Char.{code}
@@ -14,7 +14,7 @@ use Rattle.form.specs.declared.Verdict.TheVariants.{Fits}
 use Rattle.datetime.specs.Calendar.{leap, year_days, month_days, before, day_number, year_of, month_of, day_of}
 use Rattle.datetime.specs.Instant.{Civil, time_of, civil_on, text_at, date_time_text, instant_of, read_date_time, in_years}
 use Rattle.datetime.specs.declared.InstantRead.TheVariants.{Value}
-use Rattle.datetime.proofs.Days.{counted, before-year, before_mono, counted_mono, year-months, year-is}
+use Rattle.datetime.proofs.Days.{before-year, before_mono, counted_mono, year-months, year-is}
 use Rattle.datetime.proofs.Formulas.{in_year, year_began, month_began, month_least, month_most, day_most}
 use Rattle.datetime.proofs.Signed.{since, count-is}
 use Rattle.datetime.proofs.Texts.{Valid, utc, in_form_lem}

@@ -1,7 +1,7 @@
 -- What a text of the form shows: the fields that were spelled, in their ranges.
-use mathlib.Core.Path.{◌≡◌, refl, sym, ap, subst, subst⁻¹, ◌∙◌}
+use mathlib.Core.Path.{◌≡◌, refl, sym, ap, subst⁻¹, ◌∙◌}
 use mathlib.Core.List.{List, ◌++◌}
-use Prim.Native.Nat.{ℕ, ◌+◌, ◌-◌, ◌*◌, ◌/◌, ◌≤◌, ◌<◌}
+use Prim.Native.Nat.{ℕ, ◌+◌, ◌*◌, ◌/◌, ◌≤◌, ◌<◌}
 use Prim.Native.Char.{code}
 use native.Mathlib.Nat.{add-zero}
 use native.Mathlib.Omega.{arith}
@@ -16,7 +16,7 @@ use Rattle.form.specs.Listings.{date_time_form}
 use Rattle.form.specs.declared.Verdict.{Verdict}
 use Rattle.form.specs.declared.Verdict.TheVariants.{Fits, Stops}
 use Rattle.datetime.specs.Calendar.{leap, day_number}
-use Rattle.datetime.specs.Instant.{digit_of, last_digit, number, Civil, civil_of, spelled, time_of, offset_after, epoch, instant_of, value_of, read_date_time}
+use Rattle.datetime.specs.Instant.{digit_of, last_digit, number, Civil, civil_of, spelled, time_of, offset_after, instant_of, value_of, read_date_time}
 use Rattle.datetime.specs.declared.InstantRead.TheVariants.{Value, Refused}
 use Rattle.datetime.proofs.Days.{month_length_lem}
 use Rattle.datetime.proofs.Signed.{epoch-is}

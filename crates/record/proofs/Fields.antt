@@ -11,7 +11,7 @@ use mir.Facts.{to_z-of_z, Fits-of_z}
 use mir.Syntax.{w64}
 use mir.Val.{SFits, of_z, to_z}
 use borrow.Author.Tests.{eqb-true, leb-true}
-use Rattle.octets.specs.Numbers.{number, number_from, big_endian}
+use Rattle.octets.specs.Numbers.{number, number_from}
 use Rattle.octets.specs.Parts.{part, zeros, all_zero}
 use Rattle.octets.proofs.Numbers.{length-big_endian}
 use Rattle.octets.proofs.Stores.{length-zeros}

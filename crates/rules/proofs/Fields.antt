@@ -2,8 +2,7 @@
 -- verdict stands beside the bytes, it is that of the form, and the bytes of a text in form are its own.
 use Prim.Native.Nat.{ℕ}
 use mathlib.Core.Path.{◌≡◌, refl}
-use mathlib.Core.Bool.{Bool, true, false, false≢true, true≢false}
-use mathlib.Core.List.{List}
+use mathlib.Core.Bool.{true, false, false≢true}
 use native.Mathlib.Omega.{arith}
 use lib.IntN.{ℤ}
 use Rattle.form.specs.Regex.{judge}

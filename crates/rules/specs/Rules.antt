@@ -1,5 +1,5 @@
 -- The rules of each call, its checks in the order and words of 01 ("Rules of each call, checks in this order").
-use Rattle.std.specs.Prelude.{ℕ, suc, ◌+◌, ◌*◌, ◌/◌, ◌%◌, Bool, true, false, cond, not, ◌&&◌, ◌||◌, List, [], ◌∷◌, eqb, leb, ltb, length, ℤ, pos, ◌+ℤ◌}
+use Rattle.std.specs.Prelude.{ℕ, suc, ◌+◌, ◌/◌, ◌%◌, Bool, true, false, cond, not, ◌&&◌, ◌||◌, List, [], ◌∷◌, eqb, leb, ltb, length, ℤ, pos, ◌+ℤ◌}
 use Rattle.std.proofs.Math.Option.{Option, none, some}
 use Rattle.std.specs.Int.Signed.{le_z, lt_z}
 use Rattle.octets.specs.Parts.{same}
@@ -9,7 +9,7 @@ use Rattle.datetime.specs.Instant.{instant_of}
 use Rattle.rules.specs.declared.Answer.{Answer}
 use Rattle.rules.specs.declared.Answer.TheVariants.{Done, NotInForm, NoPayer, NoPayee, PayerIsPayee, OtherCurrency, OtherContent, Expired, OpenBookFull, NoPlaceLeft, CapPassed, UnknownId, NotThePayee, EndedAnotherWay, NoMatch, ClockGoesBack, ListTooShort, NameHeld, AccountsFull, CapTooHigh, BadLengths, OutOfShape, Resend}
 use Rattle.rules.specs.Answers.{is_done}
-use Rattle.rules.specs.Calls.{PrepareText, Content, Call, «open», join, prepare, fulfil, abort, time, lookup, in_form, condition_of, condition_for, content_of, code_of}
+use Rattle.rules.specs.Calls.{Content, Call, «open», join, prepare, fulfil, abort, time, lookup, in_form, condition_of, condition_for, content_of, code_of}
 use Rattle.rules.specs.View.{State, reserved, committed, aborted, expired, Transfer, Standing, View}
 
 -- a check and the answer that it gives; the first that holds counts

@@ -1,5 +1,6 @@
 // The numbers given back (01, "Numbers given back"). The rules of the calls are definitions: specs/Rules.antt is the page to read.
 #![tactic(auto)]
+
 ghost use Rattle.std.specs.Prelude.{◌≡◌};
 ghost use Rattle.rules.specs.Answers.{number, code, is_done};
 

@@ -9,7 +9,7 @@ use lib.ListN.{length, length-take, drop, get_or}
 use lib.IntN.{ℤ, pos, negsuc}
 use lib.Signed.{le_z, mag}
 use borrow.Author.Tests.{leb-true, le-leb}
-use Rattle.octets.specs.Lists.{all, count, sum}
+use Rattle.octets.specs.Lists.{all, sum}
 use Rattle.octets.specs.Parts.{all_zero}
 use Rattle.octets.specs.Integers.{up, dn}
 use Rattle.octets.proofs.Integers.{same, le_split}

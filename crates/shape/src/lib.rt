@@ -1,5 +1,6 @@
 // Whether a book is of the shape: one pass over everything that a call is lent.
 #![tactic(auto)]
+
 mod accounts;
 mod balance;
 mod records;

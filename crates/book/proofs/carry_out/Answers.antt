@@ -3,13 +3,8 @@ use Prim.Native.Nat.{◌+◌, ◌*◌}
 use mathlib.Core.Path.{◌≡◌, sym, ◌∙◌}
 use mathlib.Core.Bool.{true}
 use native.Mathlib.Omega.{arith}
-use Rattle.record.specs.Layout.{bytes, num}
-use Rattle.record.specs.Rows.{row}
 use Rattle.rules.specs.Answers.{is_done}
-use Rattle.book.specs.Step.{book_of}
-use Rattle.book.specs.Inner.{CanEnd}
 use Rattle.book.proofs.Ends.{byte-at}
-use borrow.Author.Rules.{rules}
 use Rattle.book.proofs.carry_out.Goals as goal
 
 pub overflow_mul-at : goal.overflow_mul-at

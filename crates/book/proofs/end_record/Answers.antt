@@ -1,5 +1,4 @@
 -- `end_record`: the head by `settle`, the bytes by `move_ended`.
-use borrow.Author.Rules.{rules}
 use Rattle.record.proofs.Rows.{lent_row}
 use Rattle.book.proofs.end_record.Goals as goal
 

@@ -1,7 +1,6 @@
 -- `find`: the two searches, one after the other.
 use mathlib.Core.Path.{refl}
 use borrow.Author.Tests.{lt-ltb, le-ltb}
-use borrow.Author.Rules.{rules}
 use Rattle.book.proofs.find.Goals as goal
 
 pub returns-then-slot-slots : goal.returns-then-slot-slots

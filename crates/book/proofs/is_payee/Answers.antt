@@ -1,5 +1,4 @@
 -- `is_payee`: the payee's account is in use, so its name is one of the head's.
-use borrow.Author.Rules.{rules}
 use Rattle.shape.proofs.Names.{name_at}
 use Rattle.book.proofs.is_payee.Goals as goal
 

@@ -1,5 +1,4 @@
 -- `judged`: the answer by whether the sender is the payee.
-use borrow.Author.Rules.{rules}
 use Rattle.book.proofs.judged.Goals as goal
 
 pub returns-then-is_payee : goal.returns-then-is_payee

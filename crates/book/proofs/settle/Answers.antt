@@ -1,5 +1,4 @@
 -- `settle`: the definition is the code, with what the calls ensure.
-use borrow.Author.Rules.{rules}
 use Rattle.book.specs.Ending.{settled as settled_head}
 use Rattle.book.proofs.settle.Goals as goal
 

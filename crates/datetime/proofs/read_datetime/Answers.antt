@@ -12,7 +12,6 @@ use Rattle.form.specs.declared.Verdict.{Verdict}
 use Rattle.datetime.specs.Reach.{verdict}
 use Rattle.datetime.proofs.Walk.{verdict-is}
 use Rattle.datetime.proofs.Values.{read_value, read-refused}
-use borrow.Author.Rules.{rules}
 use Rattle.datetime.proofs.read_datetime.Goals as goal
 
 judged : (s : List ℕ) (v : Verdict) → ((k : ℕ) → get_or s k 0 < 256) → v ≡ verdict s → v ≡ judge date_time_form s

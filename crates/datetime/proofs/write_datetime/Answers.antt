@@ -1,7 +1,7 @@
 -- `write_datetime`: outside the years, without room, or the text and what stood after it.
 use mathlib.Core.List.{List, ◌++◌}
 use Prim.Native.Nat.{ℕ}
-use lib.ListN.{length, take, drop}
+use lib.ListN.{length, drop}
 use mathlib.Core.Bool.{Bool}
 use lib.IntN.{ℤ}
 use mir.Val.{SFits, to_z, of_z}
@@ -10,7 +10,6 @@ use mathlib.Core.Path.{◌≡◌, refl, sym, ap, ◌∙◌}
 use mir.Facts.{to_z-of_z}
 use Rattle.datetime.specs.Instant.{in_years, date_time_text}
 use Rattle.datetime.proofs.Signed.{text_long, outside, no_room, written}
-use borrow.Author.Rules.{rules}
 use Rattle.datetime.proofs.write_datetime.Goals as goal
 
 -- the test of the argument, as the machine holds it

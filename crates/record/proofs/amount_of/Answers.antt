@@ -1,6 +1,5 @@
 -- `amount_of`: units and remainder are the numbers of their fields' bytes.
 use Rattle.record.specs.Layout.{get}
-use borrow.Author.Rules.{rules}
 use Rattle.record.proofs.amount_of.Goals as goal
 
 pub returns : goal.returns

@@ -1,6 +1,5 @@
 -- `code_of`: the code is the number of its field's bytes.
 use Rattle.record.specs.Layout.{get}
-use borrow.Author.Rules.{rules}
 use Rattle.record.proofs.code_of.Goals as goal
 
 pub returns : goal.returns

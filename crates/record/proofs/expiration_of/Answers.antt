@@ -4,7 +4,6 @@ use mir.Facts.{to_z-of_z}
 use mir.Syntax.{w64}
 use mir.Val.{to_z}
 use Rattle.record.specs.Layout.{get}
-use borrow.Author.Rules.{rules}
 use Rattle.record.proofs.expiration_of.Goals as goal
 
 pub returns : goal.returns

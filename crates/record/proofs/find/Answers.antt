@@ -1,10 +1,8 @@
 -- `find`: no record before k has the id.
-use Prim.Native.Nat.{◌-◌}
 use mathlib.Core.Path.{◌≡◌, ap, sym, ◌∙◌}
 use native.Mathlib.Omega.{arith}
-use borrow.Author.Rules.{rules}
 use Rattle.record.specs.Rows.{row, holds}
-use Rattle.record.proofs.Rows.{Searched, search_start, search_hit, search_miss, search_done, lent_row}
+use Rattle.record.proofs.Rows.{search_start, search_hit, search_miss, search_done, lent_row}
 use Rattle.record.proofs.find.Goals as goal
 
 pub loop-k-init : goal.loop-k-init

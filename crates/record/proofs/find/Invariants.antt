@@ -1,9 +1,6 @@
 use Prim.Native.Nat.{◌-◌}
-use mathlib.Core.Path.{◌≡◌, ap, sym, ◌∙◌}
-use native.Mathlib.Omega.{arith}
-use borrow.Author.Rules.{rules}
-use Rattle.record.specs.Rows.{row, holds}
-use Rattle.record.proofs.Rows.{Searched, search_start, search_hit, search_miss, search_done, lent_row}
+use Rattle.record.specs.Rows.{holds}
+use Rattle.record.proofs.Rows.{Searched}
 use Rattle.record.proofs.find.Given as goal
 
 abbrev pub invariant-loop-k : goal.invariant-loop-k

@@ -1,7 +1,6 @@
 -- `four`: each byte makes the number 256 times as great.
 use native.Mathlib.Omega.{arith}
 use Rattle.octets.specs.Numbers.{number_from}
-use borrow.Author.Rules.{rules}
 use Rattle.record.proofs.four.Goals as goal
 
 pub returns : goal.returns

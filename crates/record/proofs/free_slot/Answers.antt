@@ -1,10 +1,8 @@
 -- `free_slot`: no slot before k is free.
-use Prim.Native.Nat.{◌-◌}
 use native.Mathlib.Omega.{arith}
-use borrow.Author.Rules.{rules}
 use borrow.Author.Tests.{eq-eqb, ne_eqb}
 use Rattle.record.specs.Layout.{is_free}
-use Rattle.record.proofs.Rows.{Searched, search_start, search_hit, search_miss, search_done, state_of_lem}
+use Rattle.record.proofs.Rows.{search_start, search_hit, search_miss, search_done, state_of_lem}
 use Rattle.record.proofs.free_slot.Goals as goal
 
 pub loop-k-init : goal.loop-k-init

@@ -1,9 +1,6 @@
 use Prim.Native.Nat.{◌-◌}
-use native.Mathlib.Omega.{arith}
-use borrow.Author.Rules.{rules}
-use borrow.Author.Tests.{eq-eqb, ne_eqb}
 use Rattle.record.specs.Layout.{is_free}
-use Rattle.record.proofs.Rows.{Searched, search_start, search_hit, search_miss, search_done, state_of_lem}
+use Rattle.record.proofs.Rows.{Searched}
 use Rattle.record.proofs.free_slot.Given as goal
 
 abbrev pub invariant-loop-k : goal.invariant-loop-k

@@ -2,7 +2,6 @@
 use mathlib.Core.Path.{sym}
 use mathlib.Core.Bool.{not}
 use native.Mathlib.Omega.{arith}
-use borrow.Author.Rules.{rules}
 use Rattle.octets.proofs.Tests.{and-true, and-false}
 use Rattle.record.specs.Layout.{get, is_free}
 use Rattle.record.specs.Rows.{holds}

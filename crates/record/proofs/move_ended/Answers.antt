@@ -5,7 +5,6 @@ use lib.Seq.{sets}
 use Rattle.record.specs.Layout.{ended_row}
 use Rattle.record.specs.Rows.{row}
 use Rattle.record.proofs.Rows.{length-row, lent_row, row_cleared, row_anew}
-use borrow.Author.Rules.{rules}
 use Rattle.record.proofs.move_ended.Goals as goal
 
 pub returns : goal.returns

@@ -1,6 +1,5 @@
 -- `number_of`: the acceptance number is the number of its field's bytes.
 use Rattle.record.specs.Layout.{get}
-use borrow.Author.Rules.{rules}
 use Rattle.record.proofs.number_of.Goals as goal
 
 pub returns : goal.returns

@@ -1,6 +1,5 @@
 -- `payee_of`: the payee's account number is the number of its field's byte.
 use Rattle.record.specs.Layout.{get}
-use borrow.Author.Rules.{rules}
 use Rattle.record.proofs.payee_of.Goals as goal
 
 pub returns : goal.returns

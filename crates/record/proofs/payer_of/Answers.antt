@@ -1,6 +1,5 @@
 -- `payer_of`: the payer's account number is the number of its field's byte.
 use Rattle.record.specs.Layout.{get}
-use borrow.Author.Rules.{rules}
 use Rattle.record.proofs.payer_of.Goals as goal
 
 pub returns : goal.returns

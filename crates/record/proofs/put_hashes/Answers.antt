@@ -1,5 +1,4 @@
 -- `put_hashes`: each store is that of a field.
-use borrow.Author.Rules.{rules}
 use Rattle.record.proofs.put_hashes.Goals as goal
 
 pub returns : goal.returns

@@ -1,7 +1,6 @@
 -- `put_parties`: each store is that of a field.
 use native.Mathlib.Omega.{arith}
 use lib.ListN.{length-set}
-use borrow.Author.Rules.{rules}
 use Rattle.record.proofs.put_parties.Goals as goal
 
 pub bounds-part-17 : goal.bounds-part-17

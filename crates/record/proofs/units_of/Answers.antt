@@ -2,7 +2,6 @@
 use mathlib.Core.Path.{sym}
 use native.Mathlib.Omega.{arith}
 use Rattle.record.proofs.Fields.{num_units}
-use borrow.Author.Rules.{rules}
 use Rattle.record.proofs.units_of.Goals as goal
 
 pub returns : goal.returns

@@ -1,5 +1,5 @@
 -- `write_new`: three runs of settings, one after the other, are the settings of a new record.
-use mathlib.Core.Path.{◌≡◌, ap, ◌∙◌}
+use mathlib.Core.Path.{ap, ◌∙◌}
 use lib.ListN.{length}
 use Rattle.octets.proofs.Stores.{length-zeros}
 use Rattle.record.specs.Layout.{new_row}

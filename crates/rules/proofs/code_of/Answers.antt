@@ -4,7 +4,6 @@ use mathlib.Core.Path.{◌≡◌, refl}
 use mathlib.Core.List.{List, [], ◌∷◌}
 use native.Mathlib.Omega.{arith}
 use lib.ListN.{get_or}
-use borrow.Author.Rules.{rules}
 use Rattle.rules.specs.declared.Answer.{Answer}
 use Rattle.rules.specs.declared.Answer.TheVariants.{Done, NotInForm, NoPayer, NoPayee, PayerIsPayee, OtherCurrency, OtherContent, Expired, OpenBookFull, NoPlaceLeft, CapPassed, UnknownId, NotThePayee, EndedAnotherWay, NoMatch, ClockGoesBack, ListTooShort, NameHeld, AccountsFull, CapTooHigh, BadLengths, OutOfShape, OutsideYears, NoRoom, Resend}
 use Rattle.rules.specs.Answers.{number, code}

@@ -1,6 +1,3 @@
-use borrow.Author.Rules.{rules}
-use Rattle.rules.proofs.number_of.Reads as reads
-use Rattle.rules.proofs.number_of.Lts as lts
 use Rattle.rules.proofs.number_of.Goals as goal
 
 pub returns-in-Done : goal.returns-in-Done

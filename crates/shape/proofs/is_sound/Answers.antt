@@ -3,12 +3,10 @@ use mathlib.Core.Path.{◌≡◌, sym, ◌∙◌}
 use mathlib.Core.Bool.{true}
 use native.Mathlib.Omega.{arith}
 use borrow.Author.Tests.{not-true, not-false}
-use Rattle.shape.specs.Reading.{Book}
 use Rattle.shape.specs.Shape.{lengths_ok}
 use Rattle.shape.specs.Scan.{accounts_ok, open_book_ok}
 use Rattle.shape.proofs.Facts.{lengths_sound}
 use Rattle.shape.proofs.Together.{together, judged, open_room}
-use borrow.Author.Rules.{rules}
 use Rattle.shape.proofs.is_sound.Goals as goal
 
 accounts : (c : goal.Else-not-all_ok) → accounts_ok c.args.h ≡ true

@@ -1,12 +1,9 @@
 -- `open_ok`: what the pass over the slots found, beside the head.
 use mathlib.Core.Path.{sym}
-use mathlib.Core.List.{List}
 use native.Mathlib.Omega.{arith}
 use borrow.Author.Tests.{not-true, not-false}
-use Rattle.record.specs.Layout.{Row}
 use Rattle.record.specs.Rows.{rows}
 use Rattle.shape.proofs.Together.{InBook, book_right, open_wrong, open_right}
-use borrow.Author.Rules.{rules}
 use Rattle.shape.proofs.open_ok.Goals as goal
 
 pub returns-then-not-held : goal.returns-then-not-held

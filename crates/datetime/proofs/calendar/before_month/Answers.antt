@@ -3,7 +3,6 @@ use native.Mathlib.Omega.{arith}
 use mathlib.Core.Path.{ap, ◌∙◌}
 use Prim.Native.Nat.{ℕ, ◌-◌}
 use Rattle.datetime.proofs.Formulas.{even, starts_early, starts_late, at_most}
-use borrow.Author.Rules.{rules}
 use Rattle.datetime.proofs.calendar.before_month.Goals as goal
 
 pub returns-then-m-le2 : goal.returns-then-m-le2

@@ -3,7 +3,6 @@ use native.Mathlib.Omega.{arith}
 use mathlib.Core.Path.{ap}
 use Prim.Native.Nat.{ℕ, ◌+◌, ◌*◌, ◌/◌}
 use Rattle.datetime.proofs.Days.{year_sooner, year_then}
-use borrow.Author.Rules.{rules}
 use Rattle.datetime.proofs.calendar.before_year.Goals as goal
 
 pub overflow_sub-result : goal.overflow_sub-result

@@ -3,7 +3,6 @@ use mathlib.Core.Path.{sym, ◌∙◌}
 use Prim.Native.Nat.{suc-le-suc, ◌+◌, ◌*◌}
 use Rattle.datetime.proofs.Formulas.{began, within, date_found}
 use Rattle.datetime.proofs.Texts.{leap_halves}
-use borrow.Author.Rules.{rules}
 use Rattle.datetime.proofs.calendar.date_of.Goals as goal
 
 pub overflow_sub-k : goal.overflow_sub-k

@@ -5,7 +5,6 @@ use mathlib.Core.Bool.{Bool}
 use Prim.Native.Nat.{ℕ, suc-le-suc, ◌+◌, ◌-◌}
 use Rattle.datetime.specs.Calendar.{month_days, before}
 use Rattle.datetime.proofs.Texts.{leap_halves}
-use borrow.Author.Rules.{rules}
 use Rattle.datetime.proofs.calendar.day_number.Goals as goal
 
 pub returns : goal.returns

@@ -3,7 +3,6 @@ use native.Mathlib.Omega.{arith}
 use mathlib.Core.Path.{ap, ◌∙◌}
 use Prim.Native.Nat.{ℕ, ◌+◌, ◌*◌, ◌/◌, ◌%◌}
 use Rattle.datetime.proofs.Formulas.{day_at}
-use borrow.Author.Rules.{rules}
 use Rattle.datetime.proofs.calendar.day_of.Goals as goal
 
 pub returns : goal.returns

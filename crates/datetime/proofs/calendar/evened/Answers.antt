@@ -1,7 +1,6 @@
 -- `evened`: before March, and from it on.
 use native.Mathlib.Omega.{arith}
 use Rattle.datetime.proofs.Formulas.{even_early, even_late, even_small}
-use borrow.Author.Rules.{rules}
 use Rattle.datetime.proofs.calendar.evened.Goals as goal
 
 pub overflow_sub-more : goal.overflow_sub-more

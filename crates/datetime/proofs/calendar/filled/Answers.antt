@@ -1,7 +1,6 @@
 -- `filled`: its test is that of the definition.
 use native.Mathlib.Omega.{arith}
 use borrow.Author.Tests.{eq-eqb, ne_eqb}
-use borrow.Author.Rules.{rules}
 use Rattle.datetime.proofs.calendar.filled.Goals as goal
 
 pub returns-then-c-eq0 : goal.returns-then-c-eq0

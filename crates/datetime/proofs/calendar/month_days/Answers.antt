@@ -1,7 +1,6 @@
 -- `month_days`: its tests are those of the definition.
 use native.Mathlib.Omega.{arith}
 use borrow.Author.Tests.{eq-eqb, ne_eqb}
-use borrow.Author.Rules.{rules}
 use Rattle.datetime.proofs.calendar.month_days.Goals as goal
 
 pub returns-then-l : goal.returns-then-l

@@ -1,7 +1,6 @@
 -- `year_of`: the day lies in the year of its century that the formula gives.
 use mathlib.Core.Path.{refl}
 use Rattle.datetime.proofs.Formulas.{year_in}
-use borrow.Author.Rules.{rules}
 use Rattle.datetime.proofs.calendar.year_of.Goals as goal
 
 pub returns : goal.returns

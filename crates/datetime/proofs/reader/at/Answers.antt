@@ -1,7 +1,6 @@
 -- `at`: 0 past the end.
 use mathlib.Core.Path.{sym}
 use lib.ListN.{get_or-eq_default}
-use borrow.Author.Rules.{rules}
 use Rattle.datetime.proofs.reader.at.Goals as goal
 
 pub returns : goal.returns

@@ -1,14 +1,12 @@
 -- `clock_end`: each part from the place after the one before.
 use mathlib.Core.Path.{◌≡◌, subst}
 use mathlib.Core.Bool.{true, false}
-use mathlib.Core.List.{List}
 use Prim.Native.Nat.{ℕ}
 use Prim.Native.Char.{code}
 use lib.Dec.{eqb}
 use Rattle.datetime.specs.Plain.{is_digit}
 use Rattle.datetime.specs.Reach.{marked_end, clock_end}
 use Rattle.datetime.proofs.Passed.{came_to, short_of}
-use borrow.Author.Rules.{rules}
 use Rattle.datetime.proofs.reader.clock_end.Goals as goal
 
 pub returns-then-hour-ne13 : goal.returns-then-hour-ne13

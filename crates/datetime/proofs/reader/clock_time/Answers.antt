@@ -1,7 +1,6 @@
 -- `clock_time`: the numbers of a clock time that was tested.
 use native.Mathlib.Omega.{arith}
 use Rattle.datetime.proofs.Passed.{clocked}
-use borrow.Author.Rules.{rules}
 use Rattle.datetime.proofs.reader.clock_time.Goals as goal
 
 pub digits_at-hour-requires : goal.digits_at-hour-requires

@@ -1,13 +1,10 @@
 -- `date_end`: each part from the place after the one before.
 use mathlib.Core.Path.{◌≡◌, sym, ◌∙◌}
 use mathlib.Core.Bool.{true}
-use mathlib.Core.List.{List}
-use Prim.Native.Nat.{ℕ}
 use Prim.Native.Char.{code}
 use lib.Dec.{eqb}
 use Rattle.datetime.specs.Reach.{pair_end, marked_end, date_end}
 use Rattle.datetime.proofs.Passed.{came_to, short_of, month_passed}
-use borrow.Author.Rules.{rules}
 use Rattle.datetime.proofs.reader.date_end.Goals as goal
 
 pub returns-then-century-ne2 : goal.returns-then-century-ne2

@@ -1,6 +1,5 @@
 -- `days`: of the month that is shown.
 use native.Mathlib.Omega.{arith}
-use borrow.Author.Rules.{rules}
 use Rattle.datetime.proofs.reader.days.Goals as goal
 
 pub returns : goal.returns

@@ -1,6 +1,5 @@
 -- `difference`: of two counts that are not too large.
 use Rattle.datetime.proofs.Signed.{difference_fits, difference_is}
-use borrow.Author.Rules.{rules}
 use Rattle.datetime.proofs.reader.difference.Goals as goal
 
 pub overflow_sub-result : goal.overflow_sub-result

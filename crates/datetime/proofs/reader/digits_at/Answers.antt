@@ -2,7 +2,6 @@
 use mathlib.Core.Path.{subst⁻¹, ◌∙◌}
 use Prim.Native.Nat.{ℕ, ◌<◌}
 use Rattle.datetime.proofs.Passed.{shown-number}
-use borrow.Author.Rules.{rules}
 use Rattle.datetime.proofs.reader.digits_at.Goals as goal
 
 pub returns : goal.returns

@@ -6,7 +6,6 @@ use borrow.Author.Tests.{eqb-false}
 use native.Mathlib.Omega.{arith}
 use Rattle.datetime.proofs.Passed.{whole, ends_utc, ends_away, other_sign}
 use Rattle.datetime.proofs.Values.{ahead, behind, neither}
-use borrow.Author.Rules.{rules}
 use Rattle.datetime.proofs.reader.instant.Goals as goal
 
 pub local_time-local-requires : goal.local_time-local-requires

@@ -2,7 +2,6 @@
 use native.Mathlib.Omega.{arith}
 use Rattle.datetime.proofs.Passed.{dated, date_ranges}
 use Rattle.datetime.proofs.Values.{time_counted}
-use borrow.Author.Rules.{rules}
 use Rattle.datetime.proofs.reader.local_time.Goals as goal
 
 pub digits_at-century-requires : goal.digits_at-century-requires

@@ -2,7 +2,6 @@
 use mathlib.Core.Path.{sym, ◌∙◌}
 use Rattle.datetime.specs.Reach.{marked_end}
 use Rattle.datetime.proofs.Passed.{came_to, short_of}
-use borrow.Author.Rules.{rules}
 use Rattle.datetime.proofs.reader.marked_end.Goals as goal
 
 pub returns-then-shows_marked : goal.returns-then-shows_marked

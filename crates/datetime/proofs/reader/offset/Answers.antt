@@ -1,7 +1,6 @@
 -- `offset`: the numbers of an offset that was tested.
 use native.Mathlib.Omega.{arith}
 use Rattle.datetime.proofs.Passed.{set_off}
-use borrow.Author.Rules.{rules}
 use Rattle.datetime.proofs.reader.offset.Goals as goal
 
 pub digits_at-hour-requires : goal.digits_at-hour-requires

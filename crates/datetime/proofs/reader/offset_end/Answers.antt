@@ -1,7 +1,6 @@
 -- `offset_end`: each part from the place after the one before.
 use Rattle.datetime.specs.Reach.{offset_end}
 use Rattle.datetime.proofs.Passed.{came_to, short_of}
-use borrow.Author.Rules.{rules}
 use Rattle.datetime.proofs.reader.offset_end.Goals as goal
 
 pub returns-then-hour-ne26 : goal.returns-then-hour-ne26

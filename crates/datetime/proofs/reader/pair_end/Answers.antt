@@ -1,7 +1,6 @@
 -- `pair_end`: by whether a number is shown.
 use mathlib.Core.Path.{sym, ◌∙◌}
 use Rattle.datetime.specs.Reach.{pair_end}
-use borrow.Author.Rules.{rules}
 use Rattle.datetime.proofs.reader.pair_end.Goals as goal
 
 pub returns-then-shows : goal.returns-then-shows

@@ -3,7 +3,6 @@ use mathlib.Core.Path.{◌≡◌, subst, ◌∙◌}
 use mathlib.Core.Bool.{cond}
 use Prim.Native.Nat.{ℕ, ◌+◌}
 use Rattle.datetime.specs.Reach.{begins}
-use borrow.Author.Rules.{rules}
 use Rattle.datetime.proofs.reader.pair_stop.Goals as goal
 
 pub returns-then-least-tens : goal.returns-then-least-tens

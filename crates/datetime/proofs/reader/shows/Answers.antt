@@ -1,6 +1,5 @@
 -- `shows`: past the end nothing is shown.
 use Rattle.datetime.proofs.Passed.{not-shown}
-use borrow.Author.Rules.{rules}
 use Rattle.datetime.proofs.reader.shows.Goals as goal
 
 pub returns-then-i-s : goal.returns-then-i-s

@@ -5,7 +5,6 @@ use Prim.Native.Nat.{◌+◌}
 use native.Mathlib.Omega.{arith}
 use Rattle.datetime.specs.Plain.{is}
 use Rattle.datetime.proofs.Passed.{not-shown}
-use borrow.Author.Rules.{rules}
 use Rattle.datetime.proofs.reader.shows_marked.Goals as goal
 
 pub returns-then-i-s : goal.returns-then-i-s

@@ -1,7 +1,6 @@
 -- `two`: its test is that of the definition.
 use native.Mathlib.Omega.{arith}
 use Rattle.datetime.proofs.Onward.{digits_range}
-use borrow.Author.Rules.{rules}
 use Rattle.datetime.proofs.reader.two.Goals as goal
 
 pub overflow_sub-n : goal.overflow_sub-n

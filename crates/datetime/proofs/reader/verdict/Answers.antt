@@ -3,7 +3,6 @@ use mathlib.Core.Path.{ap}
 use Rattle.form.specs.declared.Verdict.TheVariants.{Stops}
 use Rattle.datetime.specs.Reach.{verdict}
 use Rattle.datetime.proofs.Passed.{came_to, short_of}
-use borrow.Author.Rules.{rules}
 use Rattle.datetime.proofs.reader.verdict.Goals as goal
 
 pub returns-then-date-ne10 : goal.returns-then-date-ne10

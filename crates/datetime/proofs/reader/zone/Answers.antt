@@ -6,7 +6,6 @@ use Rattle.form.specs.declared.Verdict.TheVariants.{Stops}
 use Rattle.datetime.specs.Reach.{zone_verdict}
 use Rattle.datetime.proofs.Listing.{is_sign}
 use Rattle.datetime.proofs.Passed.{came_to, short_of}
-use borrow.Author.Rules.{rules}
 use Rattle.datetime.proofs.reader.zone.Goals as goal
 
 pub returns-then-first-eq90 : goal.returns-then-first-eq90

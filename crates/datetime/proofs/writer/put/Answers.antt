@@ -1,10 +1,9 @@
 -- `put`: after i turns the front of the buffer is the front of the text, and the rest is as it was.
-use borrow.Author.Rules.{rules}
 use native.Mathlib.Omega.{arith}
 use mathlib.Core.Path.{◌≡◌, refl, ap, ◌∙◌}
 use mathlib.Core.List.{List, ◌++◌}
-use Prim.Native.Nat.{ℕ, ◌≤◌, ◌-◌}
-use lib.ListN.{length, take, drop, length-set}
+use Prim.Native.Nat.{ℕ}
+use lib.ListN.{take, drop, length-set}
 use lib.Seq.{take_all}
 use Rattle.datetime.proofs.Signed.{put_step}
 use Rattle.datetime.proofs.writer.put.Goals as goal

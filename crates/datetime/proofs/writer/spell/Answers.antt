@@ -1,6 +1,5 @@
 -- `spell`: digit by digit; a year of four digits is two and two.
 use Prim.Native.Nat.{suc-le-suc}
-use borrow.Author.Rules.{rules}
 use Rattle.datetime.proofs.Texts.{utc_halves}
 use Rattle.datetime.proofs.writer.spell.Goals as goal
 

@@ -4,7 +4,6 @@ use mir.Facts.{to_z-of_z}
 use mathlib.Core.Path.{ap, ◌∙◌}
 use Rattle.datetime.specs.Instant.{epoch, civil_on, utc_text, text_at, date_time_text}
 use Prim.Native.Nat.{◌%◌}
-use borrow.Author.Rules.{rules}
 use Rattle.datetime.proofs.writer.text_of.Goals as goal
 
 pub returns : goal.returns

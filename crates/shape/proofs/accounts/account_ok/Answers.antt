@@ -2,7 +2,6 @@
 use Rattle.account.specs.Position.{value}
 use Rattle.shape.specs.Shape.{account_ok}
 use Rattle.shape.proofs.Facts.{position-told}
-use borrow.Author.Rules.{rules}
 use Rattle.shape.proofs.accounts.account_ok.Goals as goal
 
 pub returns : goal.returns

@@ -1,16 +1,10 @@
-use Prim.Native.Nat.{◌-◌, ◌<◌, ◌≤◌}
-use mathlib.Core.Path.{◌≡◌, refl, sym, ap, ◌∙◌}
+use Prim.Native.Nat.{◌-◌, ◌≤◌}
+use mathlib.Core.Path.{◌≡◌}
 use mathlib.Core.Bool.{true}
-use native.Mathlib.Omega.{arith}
-use lib.ListN.{length, take}
-use lib.Seq.{take_all}
-use borrow.Author.Tests.{not-true, not-false}
+use lib.ListN.{take}
 use Rattle.octets.specs.Lists.{all}
-use Rattle.octets.proofs.Walk.{all_more, all_fails, length_unmap}
-use Rattle.account.specs.Head.{accounts_of, no_account}
+use Rattle.account.specs.Head.{accounts_of}
 use Rattle.shape.specs.Shape.{account_ok}
-use Rattle.shape.proofs.Names.{length_accounts, account_at_lem}
-use borrow.Author.Rules.{rules}
 use Rattle.shape.proofs.accounts.all_in_form.Given as goal
 
 abbrev pub invariant-loop-k : goal.invariant-loop-k

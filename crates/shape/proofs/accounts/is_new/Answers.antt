@@ -57,7 +57,7 @@ loop-j-preserved c =
     let few = early h k long c.requires.1.few c.requires.0 in (
       omega arith,
       all_more (other h k) (earlier h k) l.j [] (omega (arith, few))
-      ∙ rw (l.invariant.1, told h k long c.requires.1.few c.requires.0 l.j _ (omega arith) c.same_names.ensures ∙ ap not c.if-same_names.false),
+          ∙ rw (l.invariant.1, told h k long c.requires.1.few c.requires.0 l.j _ (omega arith) c.same_names.ensures ∙ ap not c.if-same_names.false),
     )
 
 pub returns : goal.returns

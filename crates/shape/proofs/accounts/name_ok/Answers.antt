@@ -5,7 +5,6 @@ use lib.ListN.{take}
 use borrow.Author.Tests.{le-leb, lt-leb}
 use Rattle.form.specs.Regex.{judge}
 use Rattle.form.specs.Listings.{name_form}
-use borrow.Author.Rules.{rules}
 use Rattle.shape.proofs.accounts.name_ok.Goals as goal
 
 pub returns-then-n-gt32 : goal.returns-then-n-gt32

@@ -1,17 +1,9 @@
-use Prim.Native.Nat.{◌-◌, ◌<◌, ◌≤◌}
-use mathlib.Core.Path.{◌≡◌, refl, sym, ap, ◌∙◌}
+use Prim.Native.Nat.{◌-◌, ◌≤◌}
+use mathlib.Core.Path.{◌≡◌}
 use mathlib.Core.Bool.{true}
-use mathlib.Core.List.{[]}
-use native.Mathlib.Omega.{arith}
-use lib.ListN.{length, take, get_or}
-use lib.Seq.{take_all}
-use borrow.Author.Tests.{not-true, not-false}
-use Rattle.octets.proofs.Walk.{length_unmap}
+use lib.ListN.{take}
 use Rattle.shape.specs.Reading.{names_of}
 use Rattle.shape.specs.Shape.{none_twice}
-use Rattle.shape.specs.Scan.{is_new}
-use Rattle.shape.proofs.Names.{none_more, none_fails, length-names, name_at}
-use borrow.Author.Rules.{rules}
 use Rattle.shape.proofs.accounts.none_twice.Given as goal
 
 abbrev pub invariant-loop-k : goal.invariant-loop-k

@@ -1,9 +1,5 @@
 -- `same_names`: the two names are parts of their places.
-use mathlib.Core.Path.{◌≡◌}
 use native.Mathlib.Nat.{sub-zero}
-use native.Mathlib.Omega.{arith}
-use lib.ListN.{length}
-use borrow.Author.Rules.{rules}
 use Rattle.shape.proofs.accounts.same_names.Goals as goal
 
 pub returns : goal.returns

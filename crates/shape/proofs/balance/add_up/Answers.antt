@@ -1,5 +1,5 @@
 -- `add_up`: the loop's invariant is the sums over the first k accounts.
-use Prim.Native.Nat.{◌-◌, ◌<◌, ◌≤◌}
+use Prim.Native.Nat.{◌<◌}
 use mathlib.Core.Path.{◌≡◌}
 use native.Mathlib.Omega.{arith}
 use lib.ListN.{length}
@@ -8,7 +8,7 @@ use Rattle.account.specs.Head.{accounts_of, account_at}
 use Rattle.shape.specs.Sound.{SoundAccount}
 use Rattle.shape.proofs.Facts.{position_most}
 use Rattle.shape.proofs.Names.{length_accounts, account_at_lem}
-use Rattle.shape.proofs.Bounds.{Summed, sums-start, sums_more, sums_over, sums-done}
+use Rattle.shape.proofs.Bounds.{sums-start, sums_more, sums_over, sums-done}
 use Rattle.shape.proofs.Together.{judged_at}
 use borrow.Author.Rules.{rules}
 use Rattle.shape.proofs.balance.add_up.Goals as goal

@@ -7,7 +7,6 @@ use Rattle.account.specs.Head.{accounts_of}
 use Rattle.rules.specs.Rules.{highest_cap}
 use Rattle.shape.proofs.Bounds.{Added, sums_right, sums_wrong, too_low, most_above, balance_is, amounts_equal}
 use Rattle.shape.proofs.Together.{few_accounts}
-use borrow.Author.Rules.{rules}
 use Rattle.shape.proofs.balance.sums_to.Goals as goal
 
 pub returns-then-not-s : goal.returns-then-not-s

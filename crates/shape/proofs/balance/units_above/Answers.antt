@@ -1,7 +1,6 @@
 -- `units_above`: below zero nothing, else the number's bits.
-use mathlib.Core.Path.{◌≡◌, sym, ◌∙◌}
+use mathlib.Core.Path.{sym, ◌∙◌}
 use mir.Syntax.{w64}
-use mir.Val.{to_z, of_z}
 use mir.Facts.{to_z-of_z}
 use borrow.Author.Rules.{rules}
 use Rattle.octets.proofs.Integers.{neg_split', nonneg_split, nonneg_bits}

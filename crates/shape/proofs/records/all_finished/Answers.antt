@@ -1,11 +1,7 @@
 -- `all_finished`: the loop's invariant is the answer on the first k records.
-use Prim.Native.Nat.{◌-◌, ◌≤◌}
-use mathlib.Core.Path.{◌≡◌, refl, sym, ap, ◌∙◌}
-use mathlib.Core.Bool.{◌&&◌}
+use mathlib.Core.Path.{refl, sym, ap, ◌∙◌}
 use mathlib.Core.List.{[]}
 use native.Mathlib.Omega.{arith}
-use lib.Dec.{eqb, ltb}
-use lib.ListN.{take}
 use lib.Seq.{take_all}
 use borrow.Author.Tests.{eq-eqb}
 use borrow.Author.Rules.{rules}

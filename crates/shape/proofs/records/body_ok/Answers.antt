@@ -3,7 +3,6 @@ use native.Mathlib.Omega.{arith}
 use Rattle.record.specs.Layout.{get}
 use Rattle.record.proofs.Fields.{num_byte}
 use Rattle.shape.specs.Scan.{body_ok}
-use borrow.Author.Rules.{rules}
 use Rattle.shape.proofs.records.body_ok.Goals as goal
 
 pub returns : goal.returns

@@ -6,7 +6,6 @@ use lib.ListN.{length, take, drop, length-drop}
 use lib.Seq.{take_all}
 use borrow.Author.Tests.{not-true, not-false}
 use Rattle.shape.specs.Scan.{ended_book_ok}
-use borrow.Author.Rules.{rules}
 use Rattle.shape.proofs.records.ended_ok.Goals as goal
 
 pub returns-then-not-all_finished : goal.returns-then-not-all_finished

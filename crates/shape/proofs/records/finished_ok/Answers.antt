@@ -2,7 +2,6 @@
 use native.Mathlib.Omega.{arith}
 use Rattle.record.proofs.Fields.{num_byte}
 use Rattle.shape.specs.Scan.{closed_ok}
-use borrow.Author.Rules.{rules}
 use Rattle.shape.proofs.records.finished_ok.Goals as goal
 
 pub returns : goal.returns

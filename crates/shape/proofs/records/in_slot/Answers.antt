@@ -6,7 +6,6 @@ use borrow.Author.Tests.{eq-eqb, ne_eqb, not-true, not-false}
 use Rattle.record.specs.Layout.{get, is_free}
 use Rattle.record.proofs.Fields.{num_byte}
 use Rattle.shape.proofs.Slots.{in_free, in_wrong, in_taken}
-use borrow.Author.Rules.{rules}
 use Rattle.shape.proofs.records.in_slot.Goals as goal
 
 pub returns-then-part-eq0 : goal.returns-then-part-eq0

@@ -3,7 +3,6 @@ use native.Mathlib.Omega.{arith}
 use Rattle.record.proofs.Fields.{num_byte}
 use Rattle.shape.specs.Scan.{reserved_ok}
 use Rattle.shape.proofs.Finished.{record_apart}
-use borrow.Author.Rules.{rules}
 use Rattle.shape.proofs.records.reserved_ok.Goals as goal
 
 pub returns : goal.returns

@@ -1,15 +1,14 @@
 -- `scan_open`: the loop's invariant is what is known of the first k slots.
-use Prim.Native.Nat.{ℕ, ◌+◌, ◌*◌, ◌-◌, ◌<◌, ◌≤◌}
+use Prim.Native.Nat.{◌+◌, ◌*◌, ◌-◌, ◌<◌}
 use mathlib.Core.Path.{◌≡◌, ◌∙◌}
-use mathlib.Core.List.{List, []}
+use mathlib.Core.List.{[]}
 use native.Mathlib.Omega.{arith}
 use lib.ListN.{length, get_or}
 use borrow.Author.Tests.{not-true, not-false}
-use Rattle.record.specs.Layout.{Row}
 use Rattle.record.specs.Rows.{rows}
 use Rattle.record.proofs.Rows.{length-rows, rows_at}
 use Rattle.shape.specs.Scan.{held_in_slot}
-use Rattle.shape.proofs.Slots.{InSlot, Counted, count-start, count-step, count_over, count-done, book_wrong, slot_wrong, slot_right}
+use Rattle.shape.proofs.Slots.{InSlot, count-start, count-step, count_over, count-done, book_wrong, slot_wrong, slot_right}
 use borrow.Author.Rules.{rules}
 use Rattle.shape.proofs.records.scan_open.Goals as goal
 
