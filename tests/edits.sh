@@ -5,6 +5,7 @@
 set -eu
 
 cd "$(dirname "$0")/.."
+# the names of the folders are those of crates, without spaces
 [ $# -gt 0 ] || set -- $(ls tests/edits)
 copy=$(mktemp -d)
 trap 'rm -rf "$copy"' EXIT
