@@ -1,5 +1,6 @@
 // Abort: the payee gives the transfer up, and the payer's amount is released.
 #![tactic(auto)]
+
 ghost use Rattle.std.specs.Prelude.{◌≡◌, true, length};
 ghost use Rattle.record.specs.Rows.{row};
 ghost use Rattle.rules.specs.Rules.{abort_state};

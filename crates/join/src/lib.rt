@@ -1,5 +1,6 @@
 // Join: an FSP gets an account.
 #![tactic(auto)]
+
 ghost use Rattle.std.specs.Prelude.{◌≡◌, ◌≤◌, ◌<◌, ltb, length};
 ghost use Rattle.account.specs.Position.{worth};
 ghost use Rattle.account.specs.Head.{Named};

@@ -1,5 +1,6 @@
 // Lookup: the record of an id, its own 160 bytes.
 #![tactic(auto)]
+
 ghost use Rattle.std.specs.Prelude.{◌≡◌, true, ◌+◌, ◌*◌, ◌≤◌, length};
 ghost use Rattle.record.specs.Layout.{num, number_field};
 ghost use Rattle.record.specs.Rows.{row};

@@ -1,5 +1,5 @@
 -- A freshly opened book is of the shape: every slot is zero, so it is free and has no amount; and there are no accounts.
-use Prim.Native.Nat.{ℕ, suc, ◌+◌, ◌-◌, ◌*◌, ◌/◌, ◌%◌, ◌≤◌, ◌<◌}
+use Prim.Native.Nat.{ℕ, suc, ◌+◌, ◌*◌, ◌/◌, ◌%◌, ◌≤◌, ◌<◌}
 use mathlib.Core.Path.{◌≡◌, refl, ap, sym, ◌∙◌}
 use mathlib.Core.Bool.{Bool, true, false, false≢true, cond, not, ◌&&◌}
 use mathlib.Core.List.{List, [], ◌∷◌}

@@ -1,5 +1,6 @@
 // Open: both books and the account places are filled with zeros, and the head has the currency and the first book time.
 #![tactic(auto)]
+
 ghost use Rattle.std.specs.Prelude.{◌≡◌, ◌<◌, length};
 ghost use Rattle.rules.specs.Rules.{length_for};
 ghost use Rattle.book.specs.Step.{book_of, outcome};

@@ -1,7 +1,6 @@
 -- `abort`: 21 unless the book is of the shape.
 use mathlib.Core.Path.{sym, ◌∙◌}
 use Rattle.abort.proofs.Answers.{unshaped}
-use borrow.Author.Rules.{rules}
 use Rattle.abort.proofs.abort.Goals as goal
 
 pub in_shape-requires : goal.in_shape-requires

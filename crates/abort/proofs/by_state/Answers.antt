@@ -1,6 +1,5 @@
 -- `by_state`: the bytes 16 and 19 tell the state, one test after the other.
 use Rattle.book.proofs.Ends.{state_reserved, state_committed, state_aborted, state_expired}
-use borrow.Author.Rules.{rules}
 use Rattle.abort.proofs.by_state.Goals as goal
 
 pub returns-then-part-eq2 : goal.returns-then-part-eq2

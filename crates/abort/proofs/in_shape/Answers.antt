@@ -5,11 +5,9 @@ use borrow.Author.Tests.{not-true, not-false}
 use Rattle.rules.specs.Calls.{fits}
 use Rattle.uuid_text.specs.declared.IdRead.{IdRead}
 use Rattle.rules.proofs.Fields.{id_verdict, code-value}
-use Rattle.shape.specs.Reading.{Book}
 use Rattle.book.specs.Step.{book_of}
 use Rattle.abort.proofs.Texts.{first_two, first_refused, last_refused, none_refused, id_read}
 use Rattle.abort.proofs.Answers.{formless, ruled}
-use borrow.Author.Rules.{rules}
 use Rattle.abort.proofs.in_shape.Goals as goal
 
 pub returns-then-not-fits : goal.returns-then-not-fits

@@ -1,7 +1,6 @@
 -- `on_record`: the part that is lent is the record.
 use Rattle.record.proofs.Rows.{lent_row}
 use Rattle.shape.specs.Reading.{transfer_of}
-use borrow.Author.Rules.{rules}
 use Rattle.abort.proofs.on_record.Goals as goal
 
 pub judged-requires : goal.judged-requires

@@ -3,7 +3,6 @@ use mathlib.Core.Path.{◌≡◌, ap, sym, ◌∙◌}
 use Rattle.rules.specs.Answers.{is_done}
 use Rattle.join.specs.Inner.{decided}
 use Rattle.join.proofs.Joining.{place-left}
-use borrow.Author.Rules.{rules}
 use Rattle.join.proofs.apply.Goals as goal
 
 pub with_account-requires : goal.with_account-requires

@@ -1,7 +1,6 @@
 -- `decide`: the checks, one after the other.
 use mathlib.Core.Path.{sym, ◌∙◌}
 use borrow.Author.Tests.{lt-ltb, le-ltb, le-leb, lt-leb}
-use borrow.Author.Rules.{rules}
 use Rattle.join.proofs.decide.Goals as goal
 
 pub returns-then-too_high : goal.returns-then-too_high

@@ -11,7 +11,6 @@ use Rattle.amount.specs.Amount.{ten_thousandths, amount_of}
 use Rattle.amount.specs.declared.Amount.{Amount}
 use Rattle.rules.specs.Calls.{fits, is_of}
 use Rattle.rules.proofs.Fields.{amount-value, amount_refused}
-use Rattle.shape.specs.Reading.{Book}
 use Rattle.shape.specs.Shape.{shape}
 use Rattle.shape.specs.Sound.{Sound}
 use Rattle.shape.proofs.Names.{length_accounts}

@@ -2,7 +2,6 @@
 use mathlib.Core.Path.{◌∙◌}
 use Rattle.octets.specs.Parts.{zeros}
 use Rattle.join.proofs.Joining.{name_stored}
-use borrow.Author.Rules.{rules}
 use Rattle.join.proofs.padded.Goals as goal
 
 pub returns : goal.returns

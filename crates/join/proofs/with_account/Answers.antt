@@ -4,7 +4,6 @@ use mathlib.Core.Path.{◌≡◌}
 use native.Mathlib.Omega.{arith}
 use lib.ListN.{length}
 use Rattle.join.specs.Effect.{with_account}
-use borrow.Author.Rules.{rules}
 use Rattle.join.proofs.with_account.Goals as goal
 
 pub returns : goal.returns

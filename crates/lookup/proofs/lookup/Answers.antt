@@ -6,11 +6,9 @@ use Rattle.form.specs.Listings.{id_form}
 use Rattle.uuid_text.specs.declared.IdRead.{IdRead}
 use Rattle.rules.specs.Calls.{fits, is_of}
 use Rattle.rules.proofs.Fields.{id_verdict, id_bytes}
-use Rattle.shape.specs.Reading.{Book}
 use Rattle.shape.specs.Shape.{shape}
 use Rattle.book.specs.Step.{book_of}
 use Rattle.lookup.proofs.Found.{lookup_out_of_shape, lookup_not_in_form, lookup_found}
-use borrow.Author.Rules.{rules}
 use Rattle.lookup.proofs.lookup.Goals as goal
 
 pub returns-then-not-is_sound : goal.returns-then-not-is_sound

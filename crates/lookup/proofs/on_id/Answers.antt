@@ -2,7 +2,6 @@
 use mathlib.Core.Path.{◌≡◌, sym, ◌∙◌}
 use lib.ListN.{length}
 use Rattle.octets.proofs.Walk.{length_unmap}
-use Rattle.shape.specs.Reading.{Book}
 use Rattle.shape.specs.Sound.{Sound}
 use Rattle.shape.proofs.Sound as shape
 use Rattle.book.specs.declared.Place.TheVariants.{Opened, Ended}

@@ -1,6 +1,5 @@
 -- `on_record`: the number in the record's own bytes.
 use Rattle.record.proofs.Rows.{lent_row}
-use borrow.Author.Rules.{rules}
 use Rattle.lookup.proofs.on_record.Goals as goal
 
 pub returns : goal.returns

@@ -4,7 +4,6 @@ use mathlib.Core.Path.{◌≡◌, sym, ◌∙◌}
 use native.Mathlib.Omega.{arith}
 use lib.ListN.{length}
 use Rattle.octets.proofs.Walk.{length_unmap}
-use Rattle.shape.specs.Reading.{Book}
 use Rattle.record.proofs.Rows.{lent_row}
 use Rattle.book.specs.declared.Place.TheVariants.{Opened, Ended}
 use Rattle.book.specs.Step.{book_of}

@@ -7,7 +7,6 @@ use Rattle.form.specs.Listings.{id_form}
 use Rattle.uuid_text.specs.declared.IdRead.{IdRead}
 use Rattle.rules.specs.Calls.{fits, is_of}
 use Rattle.rules.proofs.Fields.{id_verdict, id_bytes}
-use Rattle.shape.specs.Reading.{Book}
 use Rattle.shape.specs.Shape.{shape}
 use Rattle.book.specs.Step.{book_of}
 use lib.ListN.{length}

@@ -1,6 +1,5 @@
 -- `fresh`: the definition is the code.
 use mir.Facts.{to_z-of_z}
-use borrow.Author.Rules.{rules}
 use Rattle.open_book.proofs.fresh.Goals as goal
 
 pub returns : goal.returns

@@ -1,7 +1,6 @@
 -- `letters`: three bytes are the slice.
 use mathlib.Core.Path.{sym}
 use Rattle.open_book.proofs.Currency.{three_bytes_lem}
-use borrow.Author.Rules.{rules}
 use Rattle.open_book.proofs.letters.Goals as goal
 
 pub returns : goal.returns

@@ -9,7 +9,6 @@ use Rattle.octets.proofs.Tests.{and-false}
 use Rattle.form.specs.Listings.{currency_form}
 use Rattle.rules.specs.Calls.{fits, is_of}
 use Rattle.rules.proofs.Fields.{fits_form, instant_value, instant_refused}
-use Rattle.shape.specs.Reading.{Book}
 use Rattle.book.specs.Step.{book_of}
 use Rattle.open_book.proofs.Currency.{three_long}
 use Rattle.open_book.proofs.Opening.{open_refused, open_started}

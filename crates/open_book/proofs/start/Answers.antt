@@ -7,7 +7,6 @@ use borrow.Author.Tests.{not-true, not-false}
 use Rattle.shape.specs.Reading.{Book}
 use Rattle.book.specs.Step.{book_of}
 use Rattle.open_book.proofs.Opening.{lengths_ok, few_records, not-started, now_started}
-use borrow.Author.Rules.{rules}
 use Rattle.open_book.proofs.start.Goals as goal
 
 -- what is lent
