@@ -1,18 +1,16 @@
 -- What a reader of the line program can count on beside the promise of `reply_to`.
 use Prim.Native.Nat.{ℕ}
 use mathlib.Core.Path.{◌≡◌, refl, ap, sym, ◌∙◌}
-use mathlib.Core.Bool.{Bool, true, false, false≢true, cond, not, ◌&&◌}
+use mathlib.Core.Bool.{Bool, true, false, false≢true, cond, ◌&&◌}
 use mathlib.Core.List.{List, [], ◌∷◌}
-use lib.Dec.{eqb, leb}
+use lib.Dec.{eqb}
 use lib.ListN.{length, get_or}
-use Rattle.octets.proofs.Tests.{and-false}
 use Rattle.rules.specs.declared.Answer.TheVariants.{OutOfShape}
 use Rattle.rules.specs.Answers.{is_done}
 use Rattle.rules.specs.Calls.{Text}
 use Rattle.account.specs.declared.Head.{Head}
 use Rattle.shape.specs.Reading.{Book}
 use Rattle.shape.specs.Shape.{shape}
-use Rattle.book.specs.Step.{Outcome}
 use Rattle.book.specs.Inner.{kept}
 use Rattle.open_book.proofs.Theorems as opening
 use Rattle.join.specs.Effect.{join_step}

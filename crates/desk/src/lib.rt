@@ -1,5 +1,6 @@
 // What a line answers: the call that its word names, on the fields that follow.
 #![tactic(auto)]
+
 mod words;
 
 ghost use Rattle.std.specs.Prelude.{◌≡◌};

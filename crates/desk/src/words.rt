@@ -14,6 +14,7 @@ pub enum Word {
     Other,
 }
 
+#[tactic(auto, unfolding(crate::specs::Words::word_of))]
 pub(crate) fn word_named(s: &[u8]) -> Word
     ensures { result ≡ word_of s.now }
 {

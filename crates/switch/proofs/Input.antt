@@ -9,8 +9,7 @@ use lib.Dec.{ltb}
 use lib.ListN.{length, take, drop, length-take, length-drop, drop_of_length-le}
 use lib.Seq.{take_all, take-nil}
 use Rattle.octets.specs.Parts.{part}
-use Rattle.bytes.specs.Bytes.{index_of, slice}
-use Rattle.lines.specs.Lines.{cut_at}
+use Rattle.lines.specs.Lines.{index_of, cut_at}
 use Rattle.lines.proofs.Cut.{some_pieces, cut_last, cut_next}
 use Rattle.book.specs.Step.{book_of}
 use Rattle.switch.specs.declared.State.{State}
@@ -34,7 +33,7 @@ module _ (all : Waiting) (text : List ℕ) (s : State) (opened ended list : List
     unfolding through_lines cut_at
     at-end h = rw (drop_of_length-le text h) (rw (drop_of_length-le text h) at reached)
 
-    module _ (e : ℕ) (within : at ≤ length text) (found : e ≡ at + index_of 10 (slice at (length text) text)) where
+    module _ (e : ℕ) (within : at ≤ length text) (found : e ≡ at + index_of 10 (drop at text)) where
       pub no_newline : e ≡ length text → waiting s opened ended list (drop at text) ≡ all
       unfolding through_lines
       no_newline h =
