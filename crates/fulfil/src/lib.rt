@@ -1,5 +1,6 @@
 // Fulfil: the payee shows the fulfilment, and the transfer is committed.
 #![tactic(auto)]
+
 ghost use Rattle.std.specs.Prelude.{◌≡◌, true, cond, length};
 ghost use Rattle.octets.specs.Parts.{same as is_same};
 ghost use Rattle.record.specs.Layout.{get, condition_field};

@@ -1,13 +1,12 @@
 -- What each accepted call changes of a book's transfers and members. The order of the records is not spoken of: every sum over them is.
-use Rattle.std.specs.Prelude.{ℕ, suc, ◌+◌, ◌≡◌, Bool, true, false, not, cond, List, [], ◌∷◌, ◌++◌, map, leb, ℤ, pos, ◌+ℤ◌, ◌-ℤ◌}
-use Rattle.std.proofs.Math.Option.{Option, some}
+use Rattle.std.specs.Prelude.{ℕ, suc, ◌+◌, ◌≡◌, not, cond, List, [], ◌∷◌, ◌++◌, map, leb, ℤ, pos, ◌+ℤ◌, ◌-ℤ◌}
 use Rattle.octets.specs.Lists.{first, keep, count, sum}
 use Rattle.octets.specs.Parts.{same}
 use Rattle.amount.specs.Amount.{ten_thousandths}
 use Rattle.rules.specs.Calls.{Text, PrepareText, content_of}
-use Rattle.rules.specs.View.{State, reserved, Transfer, Standing}
+use Rattle.rules.specs.View.{State, reserved, Transfer}
 use Rattle.shape.specs.Reading.{Book, map_some, account_of, held_transfer, open_count, due_rows, numbers_of}
-use Rattle.ledger.specs.Ledger.{Member, transfers_in, members_in, in_state, is_reserved, is_due_at, expired_at, moved_at, released}
+use Rattle.ledger.specs.Ledger.{transfers_in, members_in, in_state, is_reserved, is_due_at, expired_at, moved_at, released}
 
 -- numbers in ascending order
 abbrev pub insert_number : ℕ → List ℕ → List ℕ

@@ -1,5 +1,5 @@
 -- A book's records as transfers, and its accounts as members: what the bytes say, without their order in the book.
-use Rattle.std.specs.Prelude.{ℕ, ◌≡◌, Bool, true, false, cond, ◌&&◌, List, ◌++◌, map, ℤ, pos, ◌-ℤ◌}
+use Rattle.std.specs.Prelude.{ℕ, Bool, true, false, cond, ◌&&◌, List, ◌++◌, map, ℤ, pos, ◌-ℤ◌}
 use Rattle.std.specs.Int.Signed.{le_z}
 use Rattle.octets.specs.Lists.{keep, sum}
 use Rattle.octets.specs.Parts.{same}

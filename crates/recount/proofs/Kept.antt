@@ -13,7 +13,7 @@ use Rattle.rules.specs.declared.Answer.{Answer}
 use Rattle.rules.specs.Answers.{is_done}
 use Rattle.rules.specs.Calls.{Text, PrepareText, Call, condition_of, code_of}
 use Rattle.rules.specs.Calls as rules
-use Rattle.rules.specs.View.{reserved, committed, aborted, Transfer}
+use Rattle.rules.specs.View.{committed, aborted, Transfer}
 use Rattle.rules.specs.Rules.{answer_to}
 use Rattle.shape.specs.Reading.{Book, held_transfer}
 use Rattle.shape.specs.Seen.{seen}
@@ -38,7 +38,7 @@ use Rattle.recount.specs.History as came
 use Rattle.recount.specs.Recount.{Past, Entry, Grant, transfers_of, grants_of, clock_of, sent, received, has_id, recounted, is_noted, entered, noting, past_with, past_after}
 use Rattle.recount.specs.Demand.{fresh_past}
 use Rattle.recount.proofs.Sums.{first_test}
-use Rattle.recount.proofs.Given.{wide, CallLaws}
+use Rattle.recount.proofs.Given.{CallLaws}
 use Rattle.recount.proofs.Agrees.{transfers_by, grants_by, member_by, Agrees, agree}
 use Rattle.recount.proofs.Positions.{position-same, same_sym}
 use Rattle.recount.proofs.Allowed.{join_new, prepare_allowed, fulfil_allowed, abort_allowed}

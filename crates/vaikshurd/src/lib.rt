@@ -1,5 +1,6 @@
 // The exported calls, for a gateway in C: numbers and byte slices over the proved library.
 #![tactic(auto)]
+
 mod answers;
 mod calls;
 mod lookups;

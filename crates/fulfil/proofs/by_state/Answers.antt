@@ -3,7 +3,6 @@ use mathlib.Core.Path.{◌≡◌, refl}
 use Rattle.octets.specs.Parts.{part}
 use Rattle.record.specs.Layout.{Row, get, fulfilment_field}
 use Rattle.book.proofs.Ends.{state_reserved, state_committed, state_aborted, state_expired}
-use borrow.Author.Rules.{rules}
 use Rattle.fulfil.proofs.by_state.Goals as goal
 
 fulfilment-part : (r : Row) → part r 72 32 ≡ get fulfilment_field r

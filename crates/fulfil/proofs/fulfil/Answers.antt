@@ -1,7 +1,6 @@
 -- `fulfil`: 21 unless the book is of the shape.
 use mathlib.Core.Path.{sym, ◌∙◌}
 use Rattle.fulfil.proofs.Answers.{unshaped}
-use borrow.Author.Rules.{rules}
 use Rattle.fulfil.proofs.fulfil.Goals as goal
 
 pub in_shape-requires : goal.in_shape-requires

@@ -1,16 +1,14 @@
 -- `in_shape`: 1 unless all three texts are in form, and else the rules.
 use mathlib.Core.Path.{◌≡◌, sym, ap, ap₂, ◌∙◌}
-use mathlib.Core.Bool.{Bool, true, false, ◌&&◌}
+use mathlib.Core.Bool.{true, false, ◌&&◌}
 use borrow.Author.Tests.{not-true, not-false}
 use Rattle.uuid_text.specs.declared.IdRead.{IdRead}
 use Rattle.base64url.specs.declared.ConditionRead.{ConditionRead}
 use Rattle.rules.specs.Calls.{fits}
 use Rattle.rules.proofs.Fields.{id_verdict, condition_verdict}
-use Rattle.shape.specs.Reading.{Book}
 use Rattle.book.specs.Step.{book_of}
 use Rattle.fulfil.proofs.Texts.{tested, tested_form, id_read, fulfilment_read}
 use Rattle.fulfil.proofs.Answers.{formless, ruled}
-use borrow.Author.Rules.{rules}
 use Rattle.fulfil.proofs.in_shape.Goals as goal
 
 pub returns-then-not-fits : goal.returns-then-not-fits

@@ -1,6 +1,5 @@
 -- `matching`: the lent part is the condition.
 use Rattle.record.specs.Layout.{get}
-use borrow.Author.Rules.{rules}
 use Rattle.fulfil.proofs.matching.Goals as goal
 
 pub returns-then-same : goal.returns-then-same

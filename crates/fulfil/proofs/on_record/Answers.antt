@@ -2,7 +2,6 @@
 use mathlib.Core.Path.{refl}
 use Rattle.record.proofs.Rows.{lent, lent_row}
 use Rattle.shape.specs.Reading.{names_of, transfer_of}
-use borrow.Author.Rules.{rules}
 use Rattle.fulfil.proofs.on_record.Goals as goal
 
 pub judged-requires : goal.judged-requires

@@ -4,7 +4,6 @@ use native.Mathlib.Omega.{arith}
 use lib.ListN.{length}
 use Rattle.octets.proofs.Walk.{length_unmap}
 use Rattle.record.specs.Layout.{num, ended_row, payee_field}
-use Rattle.shape.specs.Reading.{Book}
 use Rattle.shape.specs.Sound.{Sound}
 use Rattle.shape.proofs.Sound as shape
 use Rattle.book.specs.Step.{book_of}

@@ -2,7 +2,6 @@
 use mathlib.Core.Path.{sym, ap, ◌∙◌}
 use native.Mathlib.Omega.{arith}
 use lib.ListN.{length}
-use borrow.Author.Rules.{rules}
 use Rattle.vaikshurd.proofs.calls.done.Goals as goal
 use Rattle.vaikshurd.proofs.calls.done.Goals.{then-is_done, else-is_done}
 
@@ -14,7 +13,7 @@ pub returns : goal.returns
 returns c = (
   c.packed.ensures,
   elim c.if-is_done.branch [
-    then-is_done w ↦ rw (w.head-is, w.encode.ensures, sym c.is_done.ensures ∙ w.if-is_done.true)
-  | else-is_done w ↦ rw (w.head-is, sym c.is_done.ensures ∙ w.if-is_done.false)
+    | then-is_done w ↦ rw (w.head-is, w.encode.ensures, sym c.is_done.ensures ∙ w.if-is_done.true)
+    | else-is_done w ↦ rw (w.head-is, sym c.is_done.ensures ∙ w.if-is_done.false)
   ],
 )

@@ -5,7 +5,6 @@ use Rattle.octets.proofs.Tests.{and-false}
 use Rattle.form.specs.Listings.{currency_form}
 use Rattle.rules.specs.Calls.{fits, is_of}
 use Rattle.rules.proofs.Fields.{instant_value, instant_refused}
-use borrow.Author.Rules.{rules}
 use Rattle.vaikshurd.proofs.calls.open_refused.Goals as goal
 
 pub returns-then-not-fits : goal.returns-then-not-fits

@@ -1,9 +1,6 @@
 -- `vaik_abort`: 21 on a head not of the form, and else what an abort leaves.
-use Rattle.shape.specs.Reading.{Book}
-use Rattle.book.specs.Step.{Outcome}
 use Rattle.abort.specs.Effect.{abort_step}
 use Rattle.vaikshurd.proofs.Called.{formed_long, formless, stepped}
-use borrow.Author.Rules.{rules}
 use Rattle.vaikshurd.proofs.calls.vaik_abort.Goals as goal
 
 pub returns-then-not-is_formed : goal.returns-then-not-is_formed

@@ -1,9 +1,6 @@
 -- `vaik_fulfil`: 21 on a head not of the form, and else what a fulfil leaves.
-use Rattle.shape.specs.Reading.{Book}
-use Rattle.book.specs.Step.{Outcome}
 use Rattle.fulfil.specs.Effect.{fulfil_step}
 use Rattle.vaikshurd.proofs.Called.{formed_long, formless, stepped}
-use borrow.Author.Rules.{rules}
 use Rattle.vaikshurd.proofs.calls.vaik_fulfil.Goals as goal
 
 pub returns-then-not-is_formed : goal.returns-then-not-is_formed

@@ -1,6 +1,5 @@
 -- `vaik_open`: 1 or 20 on a head of another length, and else what an open leaves.
 use Rattle.vaikshurd.proofs.Called.{other_length_lem, opens}
-use borrow.Author.Rules.{rules}
 use Rattle.vaikshurd.proofs.calls.vaik_open.Goals as goal
 
 pub returns-then-head-ne2080 : goal.returns-then-head-ne2080

@@ -1,16 +1,12 @@
 -- `vaik_prepare`: 21 on a head not of the form, and else what a prepare leaves.
-use Rattle.rules.specs.Calls.{PrepareText}
-use Rattle.shape.specs.Reading.{Book}
-use Rattle.book.specs.Step.{Outcome}
 use Rattle.prepare.specs.Effect.{prepare_step}
 use Rattle.vaikshurd.proofs.Called.{formed_long, formless, stepped}
-use borrow.Author.Rules.{rules}
 use Rattle.vaikshurd.proofs.calls.vaik_prepare.Goals as goal
 
 pub returns-then-not-is_formed : goal.returns-then-not-is_formed
 returns-then-not-is_formed c =
     rw c.packed.ensures
-    (formless c.args.head.now c.args.opened.now c.args.ended.now ((λ b. prepare_step b (let a = c.args in record { id = a.id.now; payer = a.payer.now; payee = a.payee.now; currency = a.currency.now; amount = a.amount.now; condition = a.condition.now; expiration = a.expiration.now; packet = a.packet.now; })))
+    (formless c.args.head.now c.args.opened.now c.args.ended.now ((λ b. prepare_step b (let a = c.args in record { id = a.id.now; payer = a.payer.now; payee = a.payee.now; currency = a.currency.now; amount = a.amount.now; condition = a.condition.now; expiration = a.expiration.now; packet = a.packet.now })))
     _ c.is_formed.ensures c.if-not-is_formed.true-raw)
 
 pub decode-h-requires : goal.decode-h-requires
@@ -23,5 +19,5 @@ done-requires c =
 pub returns : goal.returns
 returns c =
     stepped c.args.head.now c.args.opened.now c.args.ended.now
-    _ c.decode-h.ensures c.prepare-r.result c.done.ensures ((λ b. prepare_step b (let a = c.args in record { id = a.id.now; payer = a.payer.now; payee = a.payee.now; currency = a.currency.now; amount = a.amount.now; condition = a.condition.now; expiration = a.expiration.now; packet = a.packet.now; })))
+    _ c.decode-h.ensures c.prepare-r.result c.done.ensures ((λ b. prepare_step b (let a = c.args in record { id = a.id.now; payer = a.payer.now; payee = a.payee.now; currency = a.currency.now; amount = a.amount.now; condition = a.condition.now; expiration = a.expiration.now; packet = a.packet.now })))
     _ c.is_formed.ensures c.if-not-is_formed.false-raw c.prepare-r.ensures

@@ -1,9 +1,6 @@
 -- `vaik_time`: 21 on a head not of the form, and else what a time leaves.
-use Rattle.shape.specs.Reading.{Book}
-use Rattle.book.specs.Step.{Outcome}
 use Rattle.time.specs.Effect.{time_step}
 use Rattle.vaikshurd.proofs.Called.{formed_long, formless, list_formless, times}
-use borrow.Author.Rules.{rules}
 use Rattle.vaikshurd.proofs.calls.vaik_time.Goals as goal
 
 pub returns-then-not-is_formed : goal.returns-then-not-is_formed

@@ -1,7 +1,6 @@
 -- `place_word`: by the cases of the place; the sums fit, as the record lies low.
 use Prim.Native.Nat.{◌*◌, ◌<◌}
 use native.Mathlib.Omega.{arith}
-use borrow.Author.Rules.{rules}
 use Rattle.vaikshurd.proofs.lookups.place_word.Goals as goal
 
 pub overflow_mul-result : goal.overflow_mul-result

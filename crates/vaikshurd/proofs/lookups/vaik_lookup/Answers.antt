@@ -1,11 +1,8 @@
 -- `vaik_lookup`: 21 on a head not of the form, and else the answer of a lookup.
 use mathlib.Core.Path.{refl, ap}
-use Rattle.shape.specs.Reading.{Book}
-use Rattle.book.specs.Step.{Outcome}
 use Rattle.lookup.specs.Effect.{lookup_step}
 use Rattle.vaikshurd.specs.Face.{Left}
 use Rattle.vaikshurd.proofs.Called.{formed_long, formless, stepped}
-use borrow.Author.Rules.{rules}
 use Rattle.vaikshurd.proofs.lookups.vaik_lookup.Goals as goal
 
 pub returns-then-not-is_formed : goal.returns-then-not-is_formed

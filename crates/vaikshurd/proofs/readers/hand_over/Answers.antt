@@ -4,7 +4,6 @@ use mathlib.Core.Bool.{true}
 use borrow.Author.Tests.{not-true, not-false}
 use Rattle.rules.specs.Calls.{fits}
 use Rattle.vaikshurd.proofs.Handed.{not_read, no_room, handed}
-use borrow.Author.Rules.{rules}
 use Rattle.vaikshurd.proofs.readers.hand_over.Goals as goal
 
 pub returns-then-not-fits : goal.returns-then-not-fits

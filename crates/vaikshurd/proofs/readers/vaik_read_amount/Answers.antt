@@ -1,6 +1,5 @@
 -- `vaik_read_amount`: the amount that was read, or 1.
 use mathlib.Core.Path.{sym, ◌∙◌}
-use borrow.Author.Rules.{rules}
 use Rattle.vaikshurd.proofs.readers.vaik_read_amount.Goals as goal
 
 pub returns-in-Value : goal.returns-in-Value

@@ -1,5 +1,4 @@
 -- `vaik_read_id`: the bytes that were read, handed over.
-use borrow.Author.Rules.{rules}
 use Rattle.vaikshurd.proofs.readers.vaik_read_id.Goals as goal
 
 pub returns : goal.returns

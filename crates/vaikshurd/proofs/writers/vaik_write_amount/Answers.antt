@@ -1,6 +1,5 @@
 -- `vaik_write_amount`: what the writer of an amount answers, and the buffer that it leaves.
 use Rattle.vaikshurd.proofs.Lengths.{amount_short}
-use borrow.Author.Rules.{rules}
 use Rattle.vaikshurd.proofs.writers.vaik_write_amount.Goals as goal
 
 pub written-requires : goal.written-requires

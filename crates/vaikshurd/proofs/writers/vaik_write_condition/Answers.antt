@@ -1,6 +1,5 @@
 -- `vaik_write_condition`: what the writer of a condition answers, and the buffer that it leaves.
 use Rattle.vaikshurd.proofs.Lengths.{condition_short}
-use borrow.Author.Rules.{rules}
 use Rattle.vaikshurd.proofs.writers.vaik_write_condition.Goals as goal
 
 pub written-requires : goal.written-requires

@@ -1,6 +1,5 @@
 -- `vaik_write_id`: what the writer of an id answers, and the buffer that it leaves.
 use Rattle.vaikshurd.proofs.Lengths.{id_short}
-use borrow.Author.Rules.{rules}
 use Rattle.vaikshurd.proofs.writers.vaik_write_id.Goals as goal
 
 pub written-requires : goal.written-requires

@@ -1,5 +1,4 @@
 -- `written`: by the cases of the answer; a length is a mark.
-use borrow.Author.Rules.{rules}
 use Rattle.vaikshurd.proofs.writers.written.Goals as goal
 
 pub overflow_cast-n : goal.overflow_cast-n
