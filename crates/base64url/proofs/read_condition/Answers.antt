@@ -1,6 +1,5 @@
 -- `base64url::read_condition` meets its contract: its table is the reading table, and a text of another length is not of the form.
-use mathlib.Core.Path.{refl}
-use Prim.Native.Nat.{ℕ}
+use Rattle.std.proofs.Common.{rules, refl, ℕ, ◌≢◌, length}
 use Rattle.octets.specs.Build.{build}
 use Rattle.octets.proofs.Lists.{bytes}
 use Rattle.base64url.specs.Letters.{alphabet, place_from, value_of, reading_table}
@@ -11,8 +10,9 @@ pub refused-requires : goal.refused-requires
 unfolding reading_table build value_of place_from alphabet
 refused-requires c =
     let s = c.args.s.now in
-    (refl, not_long s (bytes s (λ (i : ℕ). (c.shared_slice_known-1.given i).fits)) c.if-s-ne43.true)
+    let other : length c.args.s.now ≢ 43 = search rules in
+    (refl, not_long s (bytes s (λ (i : ℕ). (c.type_inv.s i).fits)) other)
 
 pub read_groups-requires : goal.read_groups-requires
 unfolding reading_table build value_of place_from alphabet
-read_groups-requires c = (refl, c.if-s-ne43.false)
+read_groups-requires c = (refl, search rules)
