@@ -6,7 +6,7 @@ ghost use Rattle.std.proofs.lemmas.List.Edits.{sets};
 ghost use Rattle.octets.specs.Parts.{same, zeros};
 ghost use Rattle.record.specs.Layout.{bytes, num, ended_row, payee_field, number_field};
 ghost use Rattle.record.specs.Rows.{row};
-ghost use Rattle.rules.specs.Calls.{fits as fitsForm};
+ghost use Rattle.rules.specs.Calls.{fits as fits_form};
 ghost use Rattle.shape.specs.Reading.{names_of};
 ghost use Rattle.book.specs.Step.{book_of, outcome, where_is};
 ghost use Rattle.book.specs.Ending.{settled as settled_head, amount_in};
@@ -59,7 +59,7 @@ pub fn decided(answer: Answer, mark: u32, slot: usize) -> Decision
 
 // Whether a text is of its form.
 pub fn fits(v: Verdict) -> bool
-    ensures { result ≡ fitsForm v }
+    ensures { result ≡ fits_form v }
 {
     match v {
         Verdict::Fits => true,

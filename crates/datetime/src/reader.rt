@@ -6,7 +6,7 @@ ghost use Rattle.form.specs.declared.Verdict.TheVariants.{Fits};
 ghost use Rattle.datetime.specs.Instant.{digit_of, number, civil_of, time_of, instant_of};
 ghost use Rattle.datetime.specs.Plain.{pair, pair_at, is};
 ghost use Rattle.datetime.specs.Reach.{within, pair_stop, pair_end, marked_end, days_of, date_end, clock_end, offset_end};
-ghost use Rattle.datetime.specs.Reach.{ended as textEnded, zone_verdict, verdict as verdictOf};
+ghost use Rattle.datetime.specs.Reach.{ended as text_ended, zone_verdict, verdict as verdict_of};
 
 // 1970-01-01T00:00:00.000Z, in milliseconds from 0000-01-01T00:00:00.000Z.
 const EPOCH: u64 = 62167219200000;
@@ -176,7 +176,7 @@ fn offset_end(s: &[u8]) -> usize
 
 // Nothing goes on after the place n.
 fn ended(s: &[u8], n: usize) -> form::Verdict
-    ensures { result ≡ textEnded s.now n }
+    ensures { result ≡ text_ended s.now n }
 {
     if s.len() == n {
         return form::Verdict::Fits;
@@ -203,7 +203,7 @@ fn zone(s: &[u8]) -> form::Verdict
 
 // Whether the text is of the form or where it stops, part by part.
 pub fn verdict(s: &[u8]) -> form::Verdict
-    ensures { result ≡ verdictOf s.now }
+    ensures { result ≡ verdict_of s.now }
 {
     let date = date_end(s);
     if date != 10 {
@@ -280,7 +280,7 @@ fn difference(up: u64, down: u64) -> i64
 
 // The value of a text of the form.
 pub fn instant(s: &[u8]) -> i64
-    requires { verdictOf s.now ≡ Fits }
+    requires { verdict_of s.now ≡ Fits }
     ensures { result ≡ instant_of s.now }
 {
     let local = local_time(s);

@@ -13,7 +13,7 @@ ghost use Rattle.prepare.specs.Effect.{prepare_step};
 ghost use Rattle.fulfil.specs.Effect.{fulfil_step};
 ghost use Rattle.abort.specs.Effect.{abort_step};
 ghost use Rattle.time.specs.Effect.{time_step};
-ghost use Rattle.desk.specs.Desk.{prepare_text, called as calledOn, line_step, never_opened, field_of, line_outcome};
+ghost use Rattle.desk.specs.Desk.{prepare_text, called as called_on, line_step, never_opened, field_of, line_outcome};
 
 use account::{Account, Head, Position};
 use amount::Amount;
@@ -194,7 +194,7 @@ fn called(
     line: &[u8],
 ) -> Reply
     ensures { line_outcome result opened.new ended.new list.new
-        ≡ calledOn (book_of h opened.old ended.old) list.old w (field_of line.now) }
+        ≡ called_on (book_of h opened.old ended.old) list.old w (field_of line.now) }
 {
     match w {
         Word::Open => plain(open_line(h, opened, ended, line)),

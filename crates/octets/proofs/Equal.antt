@@ -1,4 +1,4 @@
--- Laws of `same` and `allZero`: how a loop that compares byte after byte comes to the whole answer.
+-- Laws of `same` and `all_zero`: how a loop that compares byte after byte comes to the whole answer.
 use Prim.Native.Nat.{ℕ, zero, suc, ◌+◌, ◌<◌, ◌≤◌}
 use mathlib.Core.Path.{◌≡◌, refl, ap, ap₂, ◌∙◌}
 use mathlib.Core.Bool.{Bool, true, false, false≢true, ◌&&◌}

@@ -27,7 +27,7 @@ refused-requires c =
     (not-true _ c.if-not-g.true) in (
       p.0,
       not_letters s
-          (bytes s (λ (i : ℕ). (c.shared_slice_known-1.given i
+          (bytes s (λ (i : ℕ). (c.type_inv.s i
           ).fits)) e,
     )
 
@@ -65,7 +65,7 @@ refused-requires-then-not-g-2 c =
     (not-true _ c.if-not-g-2.true) in (
       p.0,
       not_letters s
-          (bytes s (λ (i : ℕ). (c.shared_slice_known-1.given i).fits)) e,
+          (bytes s (λ (i : ℕ). (c.type_inv.s i).fits)) e,
     )
 
 pub returns : goal.returns
@@ -76,6 +76,6 @@ returns c =
     let k : l.k ≡ 10 = omega arith in
     let g = c.group_of-g-2 in
     let t = not-false _ c.if-not-g-2.false in
-    fitted s (bytes s (λ (i : ℕ). (c.shared_slice_known-1.given i).fits)) _
+    fitted s (bytes s (λ (i : ℕ). (c.type_inv.s i).fits)) _
     (last_taken s l.bytes g.result p.1 l.invariant.1 g.ensures (bytes_of (map value_of s)) (rw k at l.invariant.2) t) p.1
     (last_letters s l.bytes g.result p.1 l.invariant.1 g.ensures (rw k at l.invariant.3) t)

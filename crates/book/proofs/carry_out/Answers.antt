@@ -19,7 +19,7 @@ bounds-opened-at c = omega (arith, ((c.requires.ends (let fact : is_done c.args.
 pub overflow_cast-account : goal.overflow_cast-account
 overflow_cast-account c =
     let a = c.args in
-    omega (arith, c.slice_known-then-is_done-1.given (a.d.slot * 160 + a.party))
+    omega (arith, c.type_inv.opened (a.d.slot * 160 + a.party))
 
 pub end_record-next-requires : goal.end_record-next-requires
 end_record-next-requires c =

@@ -12,7 +12,7 @@ returns-then-t c =
       stop_at a.class.now a.next.now a.s.now l.i l.q c.step-t.result _ l.invariant.1 (search rules)
           c.step-t.ensures
           c.if-t.true,
-      bytes a.s.now (λ (k : ℕ). (c.shared_slice_known-in-loop-i-1.given k).fits),
+      bytes a.s.now (λ (k : ℕ). (c.type_inv.s k).fits),
     )
 
 pub loop-i-preserved : goal.loop-i-preserved
@@ -32,7 +32,7 @@ returns-then-end c =
       stop_end a.class.now a.next.now a.s.now l.i l.q c.look-end.result _ l.invariant.1 (search rules)
           (search rules)
           c.look-end.ensures c.if-end.true,
-      bytes a.s.now (λ (k : ℕ). (c.shared_slice_known-2-1.given k).fits),
+      bytes a.s.now (λ (k : ℕ). (c.type_inv.s k).fits),
     )
 
 pub returns : goal.returns
@@ -42,5 +42,5 @@ returns c =
       fit-end a.class.now a.next.now a.s.now l.i l.q c.look-end.result _ l.invariant.1 (search rules)
           (search rules)
           c.look-end.ensures c.if-end.false,
-      bytes a.s.now (λ (k : ℕ). (c.shared_slice_known-2-1.given k).fits),
+      bytes a.s.now (λ (k : ℕ). (c.type_inv.s k).fits),
     )

@@ -15,7 +15,7 @@ loop-j-init c = (omega arith, refl, refl)
 pub hex_char-requires : goal.hex_char-requires
 hex_char-requires c = (
   c.requires.0,
-  omega (arith, c.shared_slice_known-in-loop-j-1.given (c.args.k + c.loop-j.j)),
+  omega (arith, c.type_inv.id (c.args.k + c.loop-j.j)),
 )
 
 pub bounds-out-at-in-loop-j : goal.bounds-out-at-in-loop-j
