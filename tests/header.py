@@ -55,7 +55,7 @@ def in_c(name, kind):
 def exported(rattle):
     """Each exported call as C would declare it: its name, and its answer and parameters."""
     rattle = re.sub(r"//[^\n]*", "", rattle)
-    form = r'#\[unsafe\(no_mangle\)\]\s*pub extern "C" fn (\w+)\(([^)]*)\)\s*(?:->\s*(\w+))?'
+    form = r'#\[unsafe\(no_mangle\)\]\s*(?:#\[[^\n]*\]\s*)*pub extern "C" fn (\w+)\(([^)]*)\)\s*(?:->\s*(\w+))?'
     calls = {}
     for name, parameters, answer in re.findall(form, rattle):
         pairs = [part.strip().split(":", 1) for part in parameters.split(",") if part.strip()]
@@ -73,11 +73,16 @@ def shouted(name):
 
 
 def numbered(rattle):
-    """The names of the answers with their numbers."""
-    body = re.search(r"fn number_of\(.*?\n\}", rattle, re.S)
-    if body is None:
-        raise Wrong("the Rattle source has no number_of")
-    return {shouted(name): int(number) for name, number in re.findall(r"Answer::(\w+) => (\d+)", body.group(0))}
+    """The names of the answers with their numbers: an answer's number is its place in the enum, or the one that is written behind it."""
+    body = re.search(r"pub enum Answer \{\n(.*?)\n\}", rattle, re.S)
+    if body is None or "self as u16" not in rattle:
+        raise Wrong("the Rattle source has no answers that are numbered by their places")
+    numbers, next_number = {}, 0
+    for name, number in re.findall(r"^ +(\w+)(?: = (\d+))?,", body.group(1), re.M):
+        next_number = int(number) if number else next_number
+        numbers[shouted(name)] = next_number
+        next_number += 1
+    return numbers
 
 
 # ---- the header ----
@@ -177,7 +182,7 @@ PLANTED = [
     ("exports", "instant: &mut i64", "instant: &mut u64", "an export with a number of another sign"),
     ("exports", "list: &mut [u8]", "list: &mut [u32]", "an export with a slice of something else"),
     ("exports", "#[unsafe(no_mangle)]\npub extern \"C\" fn vaik_code(", "pub fn vaik_code(", "an export taken back"),
-    ("answers", "Answer::ClockGoesBack => 15", "Answer::ClockGoesBack => 16", "a number changed in the source"),
+    ("answers", "    ClockGoesBack,\n    ListTooShort,", "    ListTooShort,\n    ClockGoesBack,", "a number changed in the source"),
 ]
 
 

@@ -1,4 +1,2 @@
 pub mod States
-pub mod Texts
-pub mod Answers
 pub mod Theorems

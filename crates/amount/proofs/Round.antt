@@ -11,8 +11,8 @@ use Rattle.octets.specs.Decimal.{in_digits}
 use Rattle.amount.specs.Amount.{read_amount, digit, whole_text, places, fraction_text, amount_text}
 use Rattle.amount.specs.Rest.{whole_rest, places_rest}
 use Rattle.amount.specs.declared.Amount.{Amount}
-use Rattle.amount.specs.declared.AmountRead.{AmountRead}
-use Rattle.amount.specs.declared.AmountRead.TheVariants.{Value}
+use Rattle.amount.specs.Amount.{AmountRead}
+use Rattle.std.specs.Prelude.{Ok}
 use Rattle.amount.proofs.Digits.{width, places-none, places_some}
 use Rattle.amount.proofs.Steps.{first-zero, first-digit, whole-digit, whole_point, whole-end, places-digit, places-end}
 
@@ -69,7 +69,7 @@ lead q w h e = go (q / w) (div-add-mod' q w)
 
 module _ (u : ℕ) where
   abbrev value : ℕ → AmountRead
-  value p = Value (record { units = u; remainder = p })
+  value p = Ok (record { units = u; remainder = p })
 
   none_read : (k q last n p : ℕ) → q ≡ 0 → p < 10000 → 48 < last → places_rest k last n u p (places k q) ≡ value (p + q)
   none_read k q last n p e b h = ap (places_rest k last n u p) (places-none k q e) ∙ places-end last n u p k h b ∙ ap value (omega arith)
@@ -96,7 +96,7 @@ module _ (u : ℕ) where
         ∙ ap value (rw y (omega arith)))
   ]
 
-fraction_read : (u r k n : ℕ) → r < 10000 → whole_rest k n u (fraction_text r) ≡ Value (record { units = u; remainder = r })
+fraction_read : (u r k n : ℕ) → r < 10000 → whole_rest k n u (fraction_text r) ≡ Ok (record { units = u; remainder = r })
 unfolding fraction_text
 fraction_read u r k n b = elim (ℕ_discrete r 0) [
   | yes e ↦ simp (eq-eqb r 0 e) (whole-end n u k ∙ ap (value u) (sym e))
@@ -105,7 +105,7 @@ fraction_read u r k n b = elim (ℕ_discrete r 0) [
       whole_point n u k (places 4 r) ∙ r' ∙ ap (value u) (omega arith))
 ]
 
-pub read_back : (a : Amount) → a.units < 10 ^ 18 → a.remainder < 10 ^ 4 → read_amount (amount_text a) ≡ Value a
+pub read_back : (a : Amount) → a.units < 10 ^ 18 → a.remainder < 10 ^ 4 → read_amount (amount_text a) ≡ Ok a
 unfolding amount_text
 read_back a h b =
     let w = whole_read a.units (fraction_text a.remainder) h in w.2 ∙ fraction_read a.units a.remainder w.0 w.1 b

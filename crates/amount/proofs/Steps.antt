@@ -1,5 +1,6 @@
 -- How a text is read on by one byte: what is left of the form after it, and the number so far. The code's loops and all theorems go by
 -- these laws.
+use Rattle.form.specs.Verdict.{value_by}
 use mathlib.Core.Path.{◌≡◌, refl, sym, ap, ◌∙◌}
 use mathlib.Core.Bool.{Bool, true, false, cond, ◌&&◌}
 use mathlib.Core.List.{List, [], ◌∷◌, ◌++◌}
@@ -13,11 +14,12 @@ use lib.Seq.{length-take-le}
 use Rattle.octets.specs.Ascii.{ascii}
 use borrow.Author.Tests.{lt-ltb, le-ltb, le-leb, lt-leb, ne_eqb}
 use Rattle.form.specs.Regex.{Re, none, empty, range, seq, alt, upto, opt, alt', deriv, judge_from}
-use Rattle.form.specs.declared.Verdict.TheVariants.{Fits}
+use Rattle.form.specs.Verdict.{of_form}
 use Rattle.octets.specs.Decimal.{decimal_from, decimal}
-use Rattle.amount.specs.Amount.{read_amount, answer, amount_of}
+use Rattle.amount.specs.Amount.{read_amount, amount_of}
 use Rattle.amount.specs.Rest.{whole_rest, places_rest, places_form, left}
-use Rattle.amount.specs.declared.AmountRead.TheVariants.{Value, Refused}
+use Rattle.std.specs.Prelude.{Ok}
+use Rattle.form.specs.Verdict.{stops_at}
 
 -- the value of u units and p ten-thousandths
 pub held : (u p : ℕ) → p < 10000 → amount_of (u * 10000 + p) ≡ record { units = u; remainder = p }
@@ -45,15 +47,15 @@ first-digit c t a b =
     simp (ne_eqb c 46 (omega arith), outside 48 48 c (omega arith), inside 49 57 c a b)
     (ap (λ (d : ℕ). whole_rest 17 1 d t) (zero-add (c - 48)))
 
-pub first-other : (c : ℕ) (t : List ℕ) → (48 ≤ c → 57 < c) → read_amount (c ∷ t) ≡ Refused 0
+pub first-other : (c : ℕ) (t : List ℕ) → (48 ≤ c → 57 < c) → read_amount (c ∷ t) ≡ stops_at 0
 unfolding read_amount
 first-other c t h = simp (outside 48 48 c (λ a. let b = h a in omega arith), outside 49 57 c (λ a. h (omega arith)))
 
 from_nothing : (n u : ℕ) (t : List ℕ) →
-    answer (judge_from (left 4 46) (suc n) t) (u * 10000 + decimal (take 4 (t ++ ascii "0000"))) ≡ places_rest 4 46 (suc n) u 0 t
+    value_by (judge_from (left 4 46) (suc n) t) (amount_of (u * 10000 + decimal (take 4 (t ++ ascii "0000")))) ≡ places_rest 4 46 (suc n) u 0 t
 unfolding places_rest
 from_nothing n u t =
-    ap (λ (p : ℕ). answer (judge_from (left 4 46) (suc n) t) (u * 10000 + p)) (sym (zero-add (decimal (take 4 (t ++ ascii "0000")))))
+    ap (λ (p : ℕ). value_by (judge_from (left 4 46) (suc n) t) (amount_of (u * 10000 + p))) (sym (zero-add (decimal (take 4 (t ++ ascii "0000")))))
 
 -- before the point
 module _ (n u : ℕ) where
@@ -72,13 +74,13 @@ module _ (n u : ℕ) where
   whole_stop zero c t h = refl
   whole_stop (suc k) c t h = simp (outside 48 57 c h)
 
-  pub whole-other : (c : ℕ) (t : List ℕ) → (c ≡ 46 → ⊥) → whole_rest 0 n u (c ∷ t) ≡ Refused n
+  pub whole-other : (c : ℕ) (t : List ℕ) → (c ≡ 46 → ⊥) → whole_rest 0 n u (c ∷ t) ≡ stops_at n
   unfolding whole_rest
   whole-other c t h = simp (outside 46 46 c (λ a. omega arith))
 
-  pub whole-end : (k : ℕ) → whole_rest k n u [] ≡ Value (record { units = u; remainder = 0 })
+  pub whole-end : (k : ℕ) → whole_rest k n u [] ≡ Ok (record { units = u; remainder = 0 })
   unfolding whole_rest
-  whole-end k = ap Value (held u 0 (omega arith))
+  whole-end k = ap Ok (held u 0 (omega arith))
 
 -- after the point
 alt_none : (r : Re) → alt' r none ≡ r
@@ -128,18 +130,18 @@ pub zeros : (k : ℕ) → decimal (take k (ascii "0000")) ≡ 0
 zeros = noughts (ascii "0000") (refl, (refl, (refl, (refl, tt))))
 
 module _ (last n u p : ℕ) where
-  pub places-full : (c : ℕ) (t : List ℕ) → places_rest 0 last n u p (c ∷ t) ≡ Refused n
+  pub places-full : (c : ℕ) (t : List ℕ) → places_rest 0 last n u p (c ∷ t) ≡ stops_at n
   unfolding places_rest
   places-full c t = rw (onward-last (ltb 48 last) c)
 
-  pub places-other : (k c : ℕ) (t : List ℕ) → (48 ≤ c → 57 < c) → places_rest (suc k) last n u p (c ∷ t) ≡ Refused n
+  pub places-other : (k c : ℕ) (t : List ℕ) → (48 ≤ c → 57 < c) → places_rest (suc k) last n u p (c ∷ t) ≡ stops_at n
   unfolding places_rest
   places-other zero c t h = rw (onward (ltb 48 last) c (places_form 0)) (simp (outside 49 57 c (λ a. h (omega arith))))
   places-other (suc k) c t h =
       rw (onward (ltb 48 last) c (places_form (suc k))) (simp (outside 48 57 c h, outside 49 57 c (λ a. h (omega arith))))
 
   -- the last of four places is not 0
-  pub places-zero : (t : List ℕ) → places_rest 1 last n u p (48 ∷ t) ≡ Refused n
+  pub places-zero : (t : List ℕ) → places_rest 1 last n u p (48 ∷ t) ≡ stops_at n
   unfolding places_rest
   places-zero t = rw (onward (ltb 48 last) 48 (places_form 0))
 
@@ -161,20 +163,20 @@ module _ (last n u p : ℕ) where
       let g = first-place k c (t ++ ascii "0000") (omega arith) in
       let d = decimal (take k (t ++ ascii "0000")) in
       let v : p + decimal (take (suc k) (c ∷ t ++ ascii "0000")) ≡ p + (c - 48) * 10 ^ k + d = omega arith in
-      λ i. answer (f i) (u * 10000 + v i)
+      λ i. value_by (f i) (amount_of (u * 10000 + v i))
 
-  pub places_open : (k : ℕ) → last ≤ 48 → places_rest k last n u p [] ≡ Refused n
+  pub places_open : (k : ℕ) → last ≤ 48 → places_rest k last n u p [] ≡ stops_at n
   unfolding places_rest
   places_open zero a = simp (le-ltb 48 last a)
   places_open (suc k) a = simp (le-ltb 48 last a)
 
-  form_end : (k : ℕ) → 48 < last → judge_from (left k last) n [] ≡ Fits
+  form_end : (k : ℕ) → 48 < last → judge_from (left k last) n [] ≡ of_form
   form_end zero a = simp (lt-ltb 48 last a)
   form_end (suc k) a = simp (lt-ltb 48 last a)
 
-  pub places-end : (k : ℕ) → 48 < last → p < 10000 → places_rest k last n u p [] ≡ Value (record { units = u; remainder = p })
+  pub places-end : (k : ℕ) → 48 < last → p < 10000 → places_rest k last n u p [] ≡ Ok (record { units = u; remainder = p })
   unfolding places_rest
   places-end k a b =
       let f = form_end k a in
       let v : p + decimal (take k (ascii "0000")) ≡ p = omega (arith, zeros k) in
-      (λ i. answer (f i) (u * 10000 + v i)) ∙ ap Value (held u p b)
+      (λ i. value_by (f i) (amount_of (u * 10000 + v i))) ∙ ap Ok (held u p b)

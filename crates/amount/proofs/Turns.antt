@@ -10,13 +10,14 @@ use lib.ListN.{length, drop, get_or}
 use lib.Seq.{drop-cons, drop-length}
 use Rattle.amount.specs.Amount.{read_amount}
 use Rattle.amount.specs.Rest.{whole_rest, places_rest}
-use Rattle.amount.specs.declared.AmountRead.{AmountRead}
-use Rattle.amount.specs.declared.AmountRead.TheVariants.{Value, Refused}
+use Rattle.amount.specs.Amount.{AmountRead}
+use Rattle.std.specs.Prelude.{Ok}
+use Rattle.form.specs.Verdict.{stops_at}
 use Rattle.amount.proofs.Steps.{first-zero, first-digit, first-other, whole-digit, whole_stop, whole_point, whole-other, whole-end}
 use Rattle.amount.proofs.Steps.{places-full, places-other, places-zero, places-digit, places_open, places-end}
 
 -- the first byte
-pub begin_nothing : (s : List ℕ) → length s ≡ 0 → Refused 0 ≡ read_amount s
+pub begin_nothing : (s : List ℕ) → length s ≡ 0 → stops_at 0 ≡ read_amount s
 unfolding read_amount
 begin_nothing [] e = refl
 begin_nothing (c ∷ t) e = absurd (omega arith)
@@ -30,7 +31,7 @@ pub begin_digit : (s : List ℕ) → 0 < length s → 49 ≤ get_or s 0 0 → ge
 begin_digit [] l a b = absurd (omega arith)
 begin_digit (c ∷ t) l a b = sym (first-digit c t a b)
 
-pub begin_other : (s : List ℕ) → 0 < length s → (48 ≤ get_or s 0 0 → 57 < get_or s 0 0) → Refused 0 ≡ read_amount s
+pub begin_other : (s : List ℕ) → 0 < length s → (48 ≤ get_or s 0 0 → 57 < get_or s 0 0) → stops_at 0 ≡ read_amount s
 begin_other [] l h = absurd (omega arith)
 begin_other (c ∷ t) l h = sym (first-other c t h)
 
@@ -53,13 +54,13 @@ module _ (s : List ℕ) (i u : ℕ) where
   ]
 
   -- where no digit may come
-  pub whole-end_at : i ≤ length s → length s ≤ i → Value (record { units = u; remainder = 0 }) ≡ whole_rest 0 i u (drop i s)
+  pub whole-end_at : i ≤ length s → length s ≤ i → Ok (record { units = u; remainder = 0 }) ≡ whole_rest 0 i u (drop i s)
   whole-end_at a b = let e : i ≡ length s = omega arith in rw (e, drop-length) (sym (whole-end (length s) u 0))
 
   pub whole_point_at : i < length s → get_or s i 0 ≡ 46 → places_rest 4 46 (i + 1) u 0 (drop (i + 1) s) ≡ whole_rest 0 i u (drop i s)
   whole_point_at l e = rw (drop-cons s i 0, add-one i, e) (sym (whole_point i u 0 (drop (suc i) s)))
 
-  pub whole-other_at : i < length s → (get_or s i 0 ≡ 46 → ⊥) → Refused i ≡ whole_rest 0 i u (drop i s)
+  pub whole-other_at : i < length s → (get_or s i 0 ≡ 46 → ⊥) → stops_at i ≡ whole_rest 0 i u (drop i s)
   whole-other_at l h = rw (drop-cons s i 0) (sym (whole-other i u (get_or s i 0) (drop (suc i) s) h))
 
 -- the number so far stays below 10 ^ 18
@@ -101,20 +102,20 @@ module _ {all : AmountRead} {s : List ℕ} {u p w last i : ℕ} where
   opened : (r : Reading all s u p w last i) → i < length s → places_rest r.k last i u p (get_or s i 0 ∷ drop (suc i) s) ≡ all
   opened r l = rw (drop-cons s i 0 l) at r.rest
 
-  pub reading_full : Reading all s u p w last i → i < length s → w ≡ 0 → Refused i ≡ all
+  pub reading_full : Reading all s u p w last i → i < length s → w ≡ 0 → stops_at i ≡ all
   reading_full r l z = go r.k r.weighs (opened r l)
     where
-      go : (k : ℕ) → Weight k w → places_rest k last i u p (get_or s i 0 ∷ drop (suc i) s) ≡ all → Refused i ≡ all
+      go : (k : ℕ) → Weight k w → places_rest k last i u p (get_or s i 0 ∷ drop (suc i) s) ≡ all → stops_at i ≡ all
       go zero b d = sym (places-full last i u p (get_or s i 0) (drop (suc i) s)) ∙ d
       go (suc k) b d = absurd (omega (arith, one-le-pow k 10 (omega arith)))
 
   -- no digit, or a 0 in the last place
   pub reading_stop : Reading all s u p w last i → i < length s → (w ≡ 0 → ⊥) →
-      (48 ≤ get_or s i 0 → get_or s i 0 ≤ 57 → (get_or s i 0 ≡ 48) × (w ≡ 1)) → Refused i ≡ all
+      (48 ≤ get_or s i 0 → get_or s i 0 ≤ 57 → (get_or s i 0 ≡ 48) × (w ≡ 1)) → stops_at i ≡ all
   reading_stop r l z h = go r.k r.weighs (dec_lt (get_or s i 0) 48) (dec_lt 57 (get_or s i 0)) ∙ opened r l
     where
       go : (k : ℕ) → Weight k w → Dec (get_or s i 0 < 48) → Dec (57 < get_or s i 0) →
-          Refused i ≡ places_rest k last i u p (get_or s i 0 ∷ drop (suc i) s)
+          stops_at i ≡ places_rest k last i u p (get_or s i 0 ∷ drop (suc i) s)
       go zero b x y = absurd (z b)
       go (suc k) b (yes x) y = sym (places-other last i u p k (get_or s i 0) (drop (suc i) s) (omega arith))
       go (suc k) b (no x) (yes y) = sym (places-other last i u p k (get_or s i 0) (drop (suc i) s) (omega arith))
@@ -136,8 +137,8 @@ module _ {all : AmountRead} {s : List ℕ} {u p w last i : ℕ} where
           let f = places-digit last i u p k (get_or s i 0) (drop (suc i) s) (omega arith) m n (λ e. h (b ∙ ap (λ (j : ℕ). 10 ^ j) e)) in
           record { k = k; few = omega arith; weighs = lighter k w b; small = rw b (omega arith); rest = rw (b, add-one i) (sym f ∙ d) }
 
-  pub reading_open : Reading all s u p w last i → i ≡ length s → last ≤ 48 → Refused i ≡ all
-  reading_open r e h = sym (places_open last i u p r.k h) ∙ rw (spent s i e) at r.rest
+  pub reading_open : Reading all s u p w last i → i ≡ length s → last ≤ 48 → stops_at (length s) ≡ all
+  reading_open r e h = ap (λ (n : ℕ). stops_at n) (sym e) ∙ sym (places_open last i u p r.k h) ∙ rw (spent s i e) at r.rest
 
-  pub reading_end : Reading all s u p w last i → i ≡ length s → 48 < last → Value (record { units = u; remainder = p }) ≡ all
+  pub reading_end : Reading all s u p w last i → i ≡ length s → 48 < last → Ok (record { units = u; remainder = p }) ≡ all
   reading_end r e h = sym (places-end last i u p r.k h (reading_small r)) ∙ rw (spent s i e) at r.rest

@@ -1,4 +1,5 @@
 -- A text that reads to an amount is the text that is written of it, and the amount is in range.
+use Rattle.form.specs.Verdict.{value_by}
 use mathlib.Core.Path.{◌≡◌, refl, sym, ap, subst, ◌∙◌}
 use mathlib.Core.List.{List, [], ◌∷◌, ◌++◌}
 use Prim.Native.Nat.{ℕ, zero, suc, ◌+◌, ◌-◌, ◌*◌, ◌/◌, ◌%◌, ◌^◌, ◌≤◌, ◌<◌}
@@ -10,14 +11,15 @@ use lib.Seq.{append_snoc}
 use borrow.Author.Tests.{lt-ltb, ne_eqb}
 use Rattle.octets.specs.Ascii.{ascii}
 use Rattle.form.specs.Regex.{judge_from}
-use Rattle.form.specs.declared.Verdict.{Verdict}
-use Rattle.form.specs.declared.Verdict.TheVariants.{Fits, Stops}
+use Rattle.form.specs.Verdict.{Verdict}
+use Rattle.form.specs.Verdict.{stops_at}
 use Rattle.octets.specs.Decimal.{decimal, in_digits}
-use Rattle.amount.specs.Amount.{read_amount, answer, amount_of, digit, whole_text, places, fraction_text, amount_text}
+use Rattle.amount.specs.Amount.{read_amount, amount_of, digit, whole_text, places, fraction_text, amount_text}
 use Rattle.amount.specs.Rest.{whole_rest, places_rest, left}
 use Rattle.amount.specs.declared.Amount.{Amount}
-use Rattle.amount.specs.declared.AmountRead.{AmountRead}
-use Rattle.amount.specs.declared.AmountRead.TheVariants.{Value, Refused}
+use Rattle.amount.specs.Amount.{AmountRead}
+use Rattle.std.specs.Prelude.{Ok, Err}
+use Rattle.form.specs.Verdict.{stops_at}
 use Rattle.amount.proofs.Digits.{width, split, places-none, places_some}
 use Rattle.amount.proofs.Steps.{held, zeros, first-place, first-zero, first-digit, first-other}
 use Rattle.amount.proofs.Steps.{whole-digit, whole_stop, whole-other, whole_point, whole-end}
@@ -25,7 +27,7 @@ use Rattle.amount.proofs.Steps.{places-full, places-other, places-zero, places-d
 use Rattle.amount.proofs.Round.{size}
 
 -- a refusal is no value
-pub refusal : {a : Amount} (n : ℕ) (x : AmountRead) → x ≡ Refused n → x ≡ Value a → ⊥
+pub refusal : {a : Amount} (n : ℕ) (x : AmountRead) → x ≡ stops_at n → x ≡ Ok a → ⊥
 refusal n x e f = let z : ◌≡◌ {A = ℕ} 0 1 = cc in omega arith
 
 -- a digit more
@@ -80,7 +82,7 @@ digit-spelled k last c t l a b (small, same, some) =
     [ yes y ↦ (let h = mul-le-mul_right {m = 1} {n = c - 48} w (omega arith) in omega arith) | no y ↦ some (omega arith) (omega arith) ]) in
     rw e (rw (pow-suc 10 k) (omega arith), sym (places_some k ((c - 48) * w + v) more ∙ (λ i. head i ∷ tail i)), λ _. more)
 
-places-spelled : (t : List ℕ) (k last n u p : ℕ) (a : Amount) → k ≤ 4 → places_rest k last n u p t ≡ Value a → Places k last t
+places-spelled : (t : List ℕ) (k last n u p : ℕ) (a : Amount) → k ≤ 4 → places_rest k last n u p t ≡ Ok a → Places k last t
 places-spelled [] k last n u p a l e = elim (dec_lt 48 last) [
   | yes h ↦ (omega (arith, zeros k, one-le-pow k 10 (omega arith)), sym (places-none k (worth k []) (zeros k)), λ x. absurd (omega arith))
   | no h ↦ absurd (refusal n (places_rest k last n u p []) (places_open last n u p k (omega arith)) e)
@@ -89,10 +91,10 @@ places-spelled (c ∷ t) zero last n u p a l e = absurd (refusal n (places_rest 
 places-spelled (c ∷ t) (suc k) last n u p a l e =
     go (kind c) (places-spelled t k c (suc n) u (p + (c - 48) * 10 ^ k) a (omega arith))
   where
-    none : places_rest (suc k) last n u p (c ∷ t) ≡ Refused n → Places (suc k) last (c ∷ t)
+    none : places_rest (suc k) last n u p (c ∷ t) ≡ stops_at n → Places (suc k) last (c ∷ t)
     none r = absurd (refusal n (places_rest (suc k) last n u p (c ∷ t)) r e)
 
-    go : Kind c → (places_rest k c (suc n) u (p + (c - 48) * 10 ^ k) t ≡ Value a → Places k c t) → Places (suc k) last (c ∷ t)
+    go : Kind c → (places_rest k c (suc n) u (p + (c - 48) * 10 ^ k) t ≡ Ok a → Places k c t) → Places (suc k) last (c ∷ t)
     go (point x) f = none (places-other last n u p k c t (omega arith))
     go (other x y) f = none (places-other last n u p k c t y)
     go (figure x y) f = elim (ℕ_discrete (k + (c - 48)) 0) [
@@ -108,16 +110,16 @@ in_all : (u k : ℕ) → u < 10 ^ (18 - k) → u < 10 ^ 18
 in_all u k b = lt_of_lt_of_le b (pow-le-pow_right {n = 10} (omega arith) (let w : 18 - k ≤ 18 = omega arith in w))
 
 -- the parts of an amount that was read
-answered : (v : Verdict) (x : ℕ) (a : Amount) → answer v x ≡ Value a → amount_of x ≡ a
-answered Fits x a e = cc
-answered (Stops n) x a e = absurd (refusal n (Refused n) refl e)
+answered : (v : Verdict) (x a : Amount) → value_by v x ≡ Ok a → x ≡ a
+answered (Ok u) x a e = cc
+answered (Err n) x a e = absurd (refusal n.at (Err n) refl e)
 
 parts : (u p : ℕ) (f : List ℕ) (a : Amount) → u < 10 ^ 18 → p < 10000 → f ≡ fraction_text p → record { units = u; remainder = p } ≡ a →
     Spelled (whole_text 18 u ++ f) a
 unfolding amount_text
 parts u p f a h k e g = subst (Spelled (whole_text 18 u ++ f)) g ((h, k), ap (λ (t : List ℕ). whole_text 18 u ++ t) e)
 
-after_point_lem : (t : List ℕ) (n u : ℕ) (a : Amount) → u < 10 ^ 18 → places_rest 4 46 n u 0 t ≡ Value a → Spelled (whole_text 18 u ++ (46 ∷ t)) a
+after_point_lem : (t : List ℕ) (n u : ℕ) (a : Amount) → u < 10 ^ 18 → places_rest 4 46 n u 0 t ≡ Ok a → Spelled (whole_text 18 u ++ (46 ∷ t)) a
 unfolding places_rest fraction_text
 after_point_lem t n u a h e =
     let s = places-spelled t 4 46 n u 0 a (omega arith) e in
@@ -125,20 +127,20 @@ after_point_lem t n u a h e =
     let z = zero-add (worth 4 t) in
     parts u (worth 4 t) (46 ∷ t) a h w (simp (ne_eqb (worth 4 t) 0 (s.2 (omega arith))) (ap (λ (l : List ℕ). 46 ∷ l) s.1))
     (sym (held u (worth 4 t) w) ∙ ap (λ (v : ℕ). amount_of (u * 10000 + v)) (sym z)
-    ∙ answered (judge_from (left 4 46) n t) (u * 10000 + (0 + worth 4 t)) a e)
+    ∙ answered (judge_from (left 4 46) n t) (amount_of (u * 10000 + (0 + worth 4 t))) a e)
 
 fraction_none : [] ≡ fraction_text 0
 unfolding fraction_text
 fraction_none = refl
 
-whole-spelled : (t : List ℕ) (k n u : ℕ) (a : Amount) → k ≤ 17 → (0 < k → 1 ≤ u) → u < 10 ^ (18 - k) → whole_rest k n u t ≡ Value a →
+whole-spelled : (t : List ℕ) (k n u : ℕ) (a : Amount) → k ≤ 17 → (0 < k → 1 ≤ u) → u < 10 ^ (18 - k) → whole_rest k n u t ≡ Ok a →
     Spelled (whole_text 18 u ++ t) a
 whole-spelled [] k n u a l h b e = parts u 0 [] a (in_all u k b) (omega arith) fraction_none (let x = whole-end n u k in cc)
 whole-spelled (c ∷ t) k n u a l h b e = go k (kind c) h b l e (λ (j : ℕ). whole-spelled t j (suc n) (u * 10 + (c - 48)) a)
   where
-    go : (k : ℕ) → Kind c → (0 < k → 1 ≤ u) → u < 10 ^ (18 - k) → k ≤ 17 → whole_rest k n u (c ∷ t) ≡ Value a →
+    go : (k : ℕ) → Kind c → (0 < k → 1 ≤ u) → u < 10 ^ (18 - k) → k ≤ 17 → whole_rest k n u (c ∷ t) ≡ Ok a →
         ((j : ℕ) → j ≤ 17 → (0 < j → 1 ≤ u * 10 + (c - 48)) → u * 10 + (c - 48) < 10 ^ (18 - j) →
-        whole_rest j (suc n) (u * 10 + (c - 48)) t ≡ Value a → Spelled (whole_text 18 (u * 10 + (c - 48)) ++ t) a) →
+        whole_rest j (suc n) (u * 10 + (c - 48)) t ≡ Ok a → Spelled (whole_text 18 (u * 10 + (c - 48)) ++ t) a) →
         Spelled (whole_text 18 u ++ (c ∷ t)) a
     go k (point x) h b l e f =
         rw x (after_point_lem t (suc n) u a (in_all u k b) (sym (whole_point n u k t) ∙ (rw x at e)))
@@ -156,15 +158,15 @@ one-digit : (n : ℕ) → n < 10 → whole_text 18 n ≡ digit n ∷ []
 unfolding whole_text
 one-digit n h = simp (lt-ltb n 10 h)
 
-no_text : read_amount [] ≡ Refused 0
+no_text : read_amount [] ≡ stops_at 0
 unfolding read_amount
 no_text = refl
 
-pub spelled : (s : List ℕ) (a : Amount) → read_amount s ≡ Value a → Spelled s a
+pub spelled : (s : List ℕ) (a : Amount) → read_amount s ≡ Ok a → Spelled s a
 spelled [] a e = absurd (refusal 0 (read_amount []) no_text e)
 spelled (c ∷ t) a e = go (kind c)
   where
-    none : read_amount (c ∷ t) ≡ Refused 0 → Spelled (c ∷ t) a
+    none : read_amount (c ∷ t) ≡ stops_at 0 → Spelled (c ∷ t) a
     none r = absurd (refusal 0 (read_amount (c ∷ t)) r e)
 
     begun : (u k : ℕ) → digit u ≡ c → u < 10 → k ≤ 17 → (0 < k → 1 ≤ u) → read_amount (c ∷ t) ≡ whole_rest k 1 u t → Spelled (c ∷ t) a

@@ -6,13 +6,12 @@ use Rattle.octets.specs.Decimal.{decimal}
 use Rattle.form.specs.Regex.{judge}
 use Rattle.form.specs.Listings.{amount_form}
 use Rattle.form.specs.Writing.{into_room}
-use Rattle.form.specs.declared.Verdict.{Verdict}
-use Rattle.form.specs.declared.Verdict.TheVariants.{Fits, Stops}
-use Rattle.form.specs.declared.Written.{Written}
-use Rattle.form.specs.declared.Written.TheVariants.{NotInForm}
+use Rattle.form.specs.Verdict.{value_by}
+use Rattle.form.specs.Writing.{Written}
+use Rattle.form.specs.declared.Unwritten.TheVariants.{NotInForm}
 use Rattle.amount.specs.declared.Amount.{Amount}
-use Rattle.amount.specs.declared.AmountRead.{AmountRead}
-use Rattle.amount.specs.declared.AmountRead.TheVariants.{Value, Refused}
+use Rattle.std.specs.Prelude.{Result, Err}
+use Rattle.form.specs.declared.Stop.{Stop}
 
 -- the characters before the point, or all where there is none
 abbrev pub before_point : List ℕ → List ℕ
@@ -32,13 +31,11 @@ ten_thousandths s = decimal (before_point s) * 10000 + decimal (take 4 (after_po
 abbrev pub amount_of : ℕ → Amount
 amount_of v = record { units = v / 10000; remainder = v % 10000 }
 
--- a text of the form has a value; any other is refused where the form stops
-abbrev pub answer : Verdict → ℕ → AmountRead
-answer Fits v = Value (amount_of v)
-answer (Stops n) v = Refused n
+abbrev pub AmountRead : Type 0
+AmountRead = Result Amount Stop
 
 unfoldable pub read_amount : List ℕ → AmountRead
-read_amount s = answer (judge amount_form s) (ten_thousandths s)
+read_amount s = value_by (judge amount_form s) (amount_of (ten_thousandths s))
 
 -- the digit d
 abbrev pub digit : ℕ → ℕ
@@ -64,4 +61,4 @@ amount_text a = whole_text 18 a.units ++ fraction_text a.remainder
 
 -- 01, "Writers": "1 for an amount or id that no text reads to .. 23"
 unfoldable pub write_amount : Amount → ℕ → Written
-write_amount a room = cond (leb (10 ^ 18) a.units || leb (10 ^ 4) a.remainder) NotInForm (into_room (amount_text a) room)
+write_amount a room = cond (leb (10 ^ 18) a.units || leb (10 ^ 4) a.remainder) (Err NotInForm) (into_room (amount_text a) room)

@@ -1,7 +1,7 @@
 // The Amount text of 001, 4.2.13: read to whole units and ten-thousandths, and written back.
 #![tactic(auto)]
 
-ghost use Rattle.std.specs.Prelude.{◌≡◌, ℕ, ◌+◌, ◌-◌, ◌*◌, ◌≤◌, ◌<◌, ◌^◌, min, ◌++◌, length, drop, get_or};
+ghost use Rattle.std.specs.Prelude.{◌≡◌, ℕ, ◌+◌, ◌-◌, ◌*◌, ◌≤◌, ◌<◌, ◌^◌, ◌++◌, length, drop, get_or};
 ghost use Rattle.std.proofs.lemmas.List.Edits.{sets};
 ghost use Rattle.octets.specs.Decimal.{in_digits};
 ghost use Rattle.form.specs.Writing.{buffer_after};
@@ -9,20 +9,13 @@ ghost use Rattle.amount.specs.Amount.{read_amount, whole_text, fraction_text, am
 ghost use Rattle.amount.specs.Rest.{whole_rest, places_rest, ReadTo};
 ghost use Rattle.amount.specs.Digits.{pointed, Tables};
 
-use form::Written;
+use form::{Stop, Unwritten};
 
 // So many whole units and ten-thousandths of a unit.
-#[derive(Clone, Copy)]
+#[derive(Clone, Copy, Debug, PartialEq, Eq, PartialOrd, Ord)]
 pub struct Amount {
     pub units: u64,
     pub remainder: u16,
-}
-
-// What a text reads to: an amount, or the offset of the first byte at which no amount goes on.
-#[derive(Clone, Copy)]
-pub enum AmountRead {
-    Value(Amount),
-    Refused(usize),
 }
 
 // The digits before the point: their number, and the offset of the first byte past them.
@@ -40,23 +33,16 @@ struct Places {
 }
 
 // The amount that the text says.
-pub fn read_amount(s: &[u8]) -> AmountRead
+pub fn read_amount(s: &[u8]) -> Result<Amount, Stop>
     ensures { result ≡ read_amount s.now }
 {
-    if s.len() == 0 {
-        return AmountRead::Refused(0);
+    match s.first() {
+        Some(b'0'..=b'9') => {
+            let Whole { units, end } = whole_digits(s);
+            after_whole(s, end, units)
+        }
+        _ => Err(Stop { at: 0 }),
     }
-    let first = s[0];
-    if first < b'0' {
-        return AmountRead::Refused(0);
-    }
-    if b'9' < first {
-        return AmountRead::Refused(0);
-    }
-    let whole = whole_digits(s);
-    let units = whole.units;
-    let end = whole.end;
-    after_whole(s, end, units)
 }
 
 // The whole part of a text that begins with a digit: a 0 alone, or at most 18 digits.
@@ -68,97 +54,59 @@ fn whole_digits(s: &[u8]) -> Whole
     if first == b'0' {
         return Whole { units: 0, end: 1 };
     }
-    let limit = smaller(s.len(), 18);
+    let limit = s.len().min(18);
+    // `as`, here and in the other sums: a `From` would be a call more in each turn of the loop.
     let mut units = (first - b'0') as u64;
-    let mut i = 1;
-    while i < limit {
+    for i in 1..limit {
         let b = s[i];
-        if b < b'0' {
-            return Whole {
-                units: units,
-                end: i,
-            };
+        if (b < b'0') | (b'9' < b) {
+            return Whole { units, end: i };
         }
-        if b'9' < b {
-            return Whole {
-                units: units,
-                end: i,
-            };
-        }
-        let digit = (b - b'0') as u64;
-        let tens = units * 10;
-        units = tens + digit;
-        i += 1;
+        units = units * 10 + (b - b'0') as u64;
     }
-    Whole {
-        units: units,
-        end: i,
-    }
-}
-
-// The smaller of the two.
-fn smaller(a: usize, b: usize) -> usize
-    ensures { result ≡ min a b }
-{
-    if a < b {
-        return a;
-    }
-    b
+    Whole { units, end: limit }
 }
 
 // No digit may follow: the text ends, or the point comes.
-fn after_whole(s: &[u8], end: usize, units: u64) -> AmountRead
+fn after_whole(s: &[u8], end: usize, units: u64) -> Result<Amount, Stop>
     requires { end ≤ length s.now }
     ensures { result ≡ whole_rest 0 end units (drop end s.now) }
 {
-    if s.len() <= end {
-        return AmountRead::Value(Amount {
-            units: units,
+    match s.get(end) {
+        None => Ok(Amount {
+            units,
             remainder: 0,
-        });
+        }),
+        Some(b'.') => after_point(s, end + 1, units),
+        Some(_) => Err(Stop { at: end }),
     }
-    if s[end] == b'.' {
-        let from = end + 1;
-        return after_point(s, from, units);
-    }
-    AmountRead::Refused(end)
 }
 
 // One to four digits up to the end of the text, the last not 0.
-fn after_point(s: &[u8], from: usize, units: u64) -> AmountRead
+fn after_point(s: &[u8], from: usize, units: u64) -> Result<Amount, Stop>
     requires { from ≤ length s.now }
     ensures { result ≡ places_rest 4 46 from units 0 (drop from s.now) }
 {
     let mut remainder: u16 = 0;
-    // what a digit counts for in the next place; 0 when there are four
+    // What a digit counts for in the next place, divided on by ten: 0 where no place is left.
     let mut weight: u16 = 1000;
     let mut last = b'.';
-    let mut i = from;
-    while i < s.len() {
+    for i in from..s.len() {
         let b = s[i];
         if weight == 0 {
-            return AmountRead::Refused(i);
+            return Err(Stop { at: i });
         }
-        if b < lowest(weight) {
-            return AmountRead::Refused(i);
+        if (b < lowest(weight)) | (b'9' < b) {
+            return Err(Stop { at: i });
         }
-        if b'9' < b {
-            return AmountRead::Refused(i);
-        }
-        let digit = (b - b'0') as u16;
-        let part = digit * weight;
-        remainder = remainder + part;
-        weight = weight / 10;
+        remainder += (b - b'0') as u16 * weight;
+        weight /= 10;
         last = b;
-        i += 1;
     }
     if last <= b'0' {
-        return AmountRead::Refused(i);
+        return Err(Stop { at: s.len() });
     }
-    AmountRead::Value(Amount {
-        units: units,
-        remainder: remainder,
-    })
+    Ok(Amount { units, remainder })
 }
 
 // The lowest digit that may stand in a place of this weight: the last of four is not 0.
@@ -172,28 +120,22 @@ fn lowest(weight: u16) -> u8
 }
 
 // The text of the amount, from the first byte of the buffer.
-pub fn write_amount(a: Amount, out: &mut [u8]) -> Written
+pub fn write_amount(a: Amount, out: &mut [u8]) -> Result<usize, Unwritten>
     ensures { (result ≡ write_amount a (length out.old))
         × (out.new ≡ buffer_after result (amount_text a) out.old) }
 {
-    let units = a.units;
-    let remainder = a.remainder;
-    if 1000000000000000000 <= units {
-        return Written::NotInForm;
-    }
-    if 10000 <= remainder {
-        return Written::NotInForm;
+    let Amount { units, remainder } = a;
+    if (1_000_000_000_000_000_000 <= units) | (10_000 <= remainder) {
+        return Err(Unwritten::NotInForm);
     }
     let whole = digit_count(units);
-    let fraction = trimmed(remainder);
-    let count = fraction.count;
-    let number = fraction.number;
-    let length = text_length(whole, count);
+    let places = trimmed(remainder);
+    let length = text_length(whole, places.count);
     if out.len() < length {
-        return Written::NoRoom;
+        return Err(Unwritten::NoRoom);
     }
-    put_text(units, whole, number, count, out);
-    Written::Length(length)
+    put_text(units, whole, places, out);
+    Ok(length)
 }
 
 // The number of digits of a whole part.
@@ -203,6 +145,7 @@ fn digit_count(n: u64) -> usize
 {
     let mut count = 1;
     let mut power: u64 = 1;
+    // By hand: a power grows up to the number, and no index is counted.
     while power <= n / 10000 {
         power = power * 10000;
         count += 4;
@@ -222,19 +165,14 @@ fn trimmed(remainder: u16) -> Places
     let mut number = remainder as u64;
     let mut count = 4;
     if number == 0 {
-        return Places {
-            number: 0,
-            count: 0,
-        };
+        return Places { number, count: 0 };
     }
+    // By hand: a number is divided while its last digit is 0, and no index is counted.
     while number % 10 == 0 {
-        number = number / 10;
+        number /= 10;
         count -= 1;
     }
-    Places {
-        number: number,
-        count: count,
-    }
+    Places { number, count }
 }
 
 // The length of a text with so many digits before the point and after it.
@@ -249,10 +187,11 @@ fn text_length(whole: usize, count: usize) -> usize
 }
 
 // The digits of the whole part, and the point and its places if there are any, into a buffer with room for them.
-fn put_text(units: u64, whole: usize, number: u64, count: usize, out: &mut [u8])
-    requires { whole + length (pointed count number) ≤ length out.old }
-    ensures { out.new ≡ sets out.old 0 (in_digits whole units ++ pointed count number) }
+fn put_text(units: u64, whole: usize, places: Places, out: &mut [u8])
+    requires { whole + length (pointed places.count places.number) ≤ length out.old }
+    ensures { out.new ≡ sets out.old 0 (in_digits whole units ++ pointed places.count places.number) }
 {
+    let Places { number, count } = places;
     put_whole(units, out, whole);
     if count == 0 {
         return;
@@ -280,6 +219,7 @@ fn put_many(units: u64, out: &mut [u8], whole: usize)
     requires { whole ≤ length out.old }
     ensures { out.new ≡ sets out.old 0 (in_digits whole units) }
 {
+    // Two texts of a hundred digits: one text of pairs would be no plainer.
     let tens =
         b"0000000000111111111122222222223333333333444444444455555555556666666666777777777788888888889999999999";
     let ones =
@@ -293,11 +233,9 @@ fn put_digits(n: u64, out: &mut [u8], from: usize, to: usize)
     ensures { out.new ≡ sets out.old from (in_digits (to - from) n) }
 {
     let mut rest = n;
-    let mut k = to;
-    while from < k {
-        k -= 1;
+    for k in (from..to).rev() {
         out[k] = b'0' + (rest % 10) as u8;
-        rest = rest / 10;
+        rest /= 10;
     }
 }
 
@@ -308,6 +246,7 @@ fn put_pairs(n: u64, out: &mut [u8], from: usize, to: usize, tens: &[u8], ones: 
 {
     let mut rest = n;
     let mut k = to;
+    // By hand: two places a turn, from the back, and one may be left over.
     while 1 < k - from {
         let pair = (rest % 100) as usize;
         rest = rest / 100;

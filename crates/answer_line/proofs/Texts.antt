@@ -12,9 +12,8 @@ use lib.Seq.{sets, sets-eq, take_all, drop-drop}
 use borrow.Author.Tests.{lt-ltb, le-ltb, lt-leb}
 use borrow.Rule.Slice.PartMut.{put_mid, mid_of}
 use Rattle.octets.proofs.Lists.{sets-append, sets-start}
-use Rattle.form.specs.declared.Written.{Written}
-use Rattle.form.specs.declared.Written.TheVariants.{Length}
-use Rattle.form.specs.Writing.{buffer_after}
+use Rattle.std.specs.Prelude.{Ok}
+use Rattle.form.specs.Writing.{Written, buffer_after}
 use Rattle.amount.specs.declared.Amount.{Amount}
 use Rattle.amount.specs.Amount.{digit, whole_text, fraction_text, amount_text, write_amount}
 use Rattle.answer_line.specs.Text.{decimal_text, spaced, number_at, list_text, answer_text}
@@ -47,26 +46,26 @@ text_home out text at h =
     rw (all, none, append-nil, drop-drop (length text) at out, sets-eq text out at h, append_assoc)
 
 -- a number is written as an amount of whole units
-module _ (out : List ℕ) (at n : ℕ) (room : at + 10 ≤ length out) (small : n < 2 ^ 32) where
+module _ (out : List ℕ) (at n units : ℕ) (same : units ≡ n) (room : at + 10 ≤ length out) (small : n < 2 ^ 32) where
   abbrev whole : Amount
-  whole = record { units = n; remainder = 0 }
+  whole = record { units = units; remainder = 0 }
 
   abbrev behind : List ℕ
   behind = mid_of at (length out - at) out
 
   whole-text : amount_text whole ≡ decimal_text n
   unfolding amount_text fraction_text
-  whole-text = append-nil (whole_text 18 n)
+  whole-text = append-nil (whole_text 18 units) ∙ ap (whole_text 18) same
 
-  pub written : (w : Written) → w ≡ write_amount whole (length behind) → w ≡ Length (length (decimal_text n))
+  pub written : (w : Written) → w ≡ write_amount whole (length behind) → w ≡ Ok (length (decimal_text n))
   unfolding write_amount
   written w e =
       let r : 10 ≤ length behind = simp (length-take, length-drop) (omega arith) in
       let f : length (amount_text whole) ≤ length behind = rw whole-text (omega (arith, ten_digits n small)) in
-      e ∙ rw (lt-leb (10 ^ 18) n (omega arith), le-ltb (length behind) (length (amount_text whole)) f, whole-text)
+      e ∙ rw (lt-leb (10 ^ 18) units (omega arith), le-ltb (length behind) (length (amount_text whole)) f, whole-text)
 
   pub number_put : (w : Written) (v : List ℕ) (m : ℕ) → w ≡ write_amount whole (length behind) →
-      v ≡ buffer_after w (amount_text whole) behind → w ≡ Length m →
+      v ≡ buffer_after w (amount_text whole) behind → w ≡ Ok m →
       Put 10 (decimal_text n) at out (put_mid at (length out - at) out v) (at + m)
   number_put w v m e f g =
       let l : length (decimal_text n) ≡ m = cc (written w e) in

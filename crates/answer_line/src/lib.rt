@@ -6,24 +6,21 @@ ghost use Rattle.answer_line.specs.Text.{decimal_text, spaced, number_at, list_t
 ghost use Rattle.answer_line.specs.Inner.{Put};
 
 use amount::Amount;
-use form::Written;
 
-// A number, from a place on; where its text ends.
+// A number, from a place on; where its text ends. Ten places hold any number, so the write does not fail.
+// Buffer and place stay two parameters, here and below: a struct of them would be unpacked by each of the four writes.
 fn put_number(out: &mut [u8], at: usize, n: u32) -> usize
     requires { at + 10 ≤ length out.old }
     ensures { Put 10 (decimal_text n) at out.old out.new result }
 {
     let whole = Amount {
-        units: n as u64,
+        units: u64::from(n),
         remainder: 0,
     };
-    let written = amount::write_amount(whole, &mut out[at..]);
-    match written {
-        Written::Length(length) => at + length,
-        Written::NotInForm => at,
-        Written::OutsideYears => at,
-        Written::NoRoom => at,
-    }
+    let Ok(length) = amount::write_amount(whole, &mut out[at..]) else {
+        unreachable!()
+    };
+    at + length
 }
 
 // A space and a number.
@@ -36,11 +33,14 @@ fn put_next(out: &mut [u8], at: usize, n: u32) -> usize
 }
 
 // Number k of the list.
+#[tactic(auto, unfolding(octets::specs::Numbers::number_from))]
 fn number_at(list: &[u8; 256], k: usize) -> u32
     requires { k < 64 }
     ensures { result ≡ number_at list.now k }
 {
-    octets::number(list, k * 4, 4) as u32
+    let mut place = [0; 4];
+    place.copy_from_slice(&list[k * 4..k * 4 + 4]);
+    u32::from_be_bytes(place)
 }
 
 // The first numbers of the list, each after a space.
@@ -49,24 +49,10 @@ fn put_list(out: &mut [u8], at: usize, list: &[u8; 256], shown: usize) -> usize
     ensures { Put (11 * shown) (list_text list.now shown) at out.old out.new result }
 {
     let mut end = at;
-    let mut k: usize = 0;
-    while k < shown {
+    for k in 0..shown {
         end = put_next(out, end, number_at(list, k));
-        k += 1;
     }
     end
-}
-
-// How many of the list's numbers are shown: no more than it has places.
-fn shown(listed: u32, list: &[u8]) -> usize
-    ensures { result ≡ min listed (length list.now / 4) }
-{
-    let wanted = listed as usize;
-    let places = list.len() / 4;
-    if wanted < places {
-        return wanted;
-    }
-    places
 }
 
 // The answer line from the first byte of the buffer, where the longest has room, and its length; the bytes past it stay.
@@ -82,11 +68,12 @@ pub fn put_line(
         × (result ≤ 768)
         × (out.new ≡ answer_text number code mark list.now listed ++ drop result out.old) }
 {
-    let a = put_number(out, 0, number as u32);
-    let b = put_next(out, a, code as u32);
+    let a = put_number(out, 0, u32::from(number));
+    let b = put_next(out, a, u32::from(code));
     let c = put_next(out, b, mark);
-    let numbers = shown(listed, list);
-    let d = put_list(out, c, list, numbers);
+    // no more numbers than the list has places
+    let shown = (listed as usize).min(list.len() / 4);
+    let d = put_list(out, c, list, shown);
     out[d] = b'\n';
     d + 1
 }

@@ -1,15 +1,13 @@
 -- Bytes and values of 6 bits: what the groups of four make, both ways.
 use mathlib.Core.Path.{◌≡◌, refl, ap}
-use mathlib.Core.Bool.{true, false, ◌&&◌}
+use mathlib.Core.Bool.{true, ◌&&◌}
 use mathlib.Core.List.{List, [], ◌∷◌, ◌++◌}
 use Prim.Native.Nat.{ℕ, zero, suc, ◌+◌, ◌*◌, ◌/◌, ◌<◌}
 use native.Mathlib.Omega.{arith}
-use lib.Dec.{ltb}
-use lib.ListN.{length}
-use borrow.Author.Tests.{ltb-true}
+use lib.ListN.{length, get_or}
 use Rattle.octets.specs.Bytes.{Bytes}
-use Rattle.base64url.specs.Letters.{value_of, is_letter}
-use Rattle.base64url.specs.Scan.{four_letters, as_group, group_of}
+use Rattle.base64url.specs.Letters.{is_letter}
+use Rattle.base64url.specs.Scan.{four_letters}
 use Rattle.base64url.specs.Condition.{three_bytes, bytes_of, values_of}
 use Rattle.base64url.proofs.Run.{and-true}
 
@@ -87,30 +85,13 @@ cleared n (a ∷ []) v l h k = absurd (omega arith)
 cleared n [] v l h k = absurd (omega arith)
 
 -- four letters, one by one
-pub all_letters_lem : (p q r s : ℕ) → four_letters p q r s ≡ true →
-    (is_letter p ≡ true) × (is_letter q ≡ true) × (is_letter r ≡ true) × (is_letter s ≡ true)
-all_letters_lem p q r s e =
-    let x = and-true (is_letter p && is_letter q && is_letter r) (is_letter s) e in
-    let y = and-true (is_letter p && is_letter q) (is_letter r) x.0 in
-    let z = and-true (is_letter p) (is_letter q) y.0 in
+pub letters_of_four : (f : List ℕ) → four_letters f ≡ true → (is_letter (get_or f 0 0) ≡ true) × (is_letter (get_or f 1 0) ≡ true)
+    × (is_letter (get_or f 2 0) ≡ true) × (is_letter (get_or f 3 0) ≡ true)
+letters_of_four f e =
+    let p = is_letter (get_or f 0 0) in
+    let q = is_letter (get_or f 1 0) in
+    let r = is_letter (get_or f 2 0) in
+    let x = and-true (p && q && r) (is_letter (get_or f 3 0)) e in
+    let y = and-true (p && q) r x.0 in
+    let z = and-true p q y.0 in
     (z.0, z.1, y.1, x.1)
-
--- four characters, by their values
-module _ (p q r s a b c d : ℕ) (e : a ≡ value_of p) (f : b ≡ value_of q) (g : c ≡ value_of r) (h : d ≡ value_of s) where
-  pub four_tests : ltb a 64 && ltb b 64 && ltb c 64 && ltb d 64 ≡ four_letters p q r s
-  four_tests = rw (e, f, g, h)
-
-  module _ (t : four_letters p q r s ≡ true) where
-    pub all_small : (a < 64) × (b < 64) × (c < 64) × (d < 64)
-    all_small =
-        let l = all_letters_lem p q r s t in
-        rw (e, f, g, h)
-        (ltb-true (value_of p) 64 l.0, ltb-true (value_of q) 64 l.1, ltb-true (value_of r) 64 l.2, ltb-true (value_of s) 64 l.3)
-
-    pub group_yes : as_group (three_bytes a b c d) ≡ group_of p q r s
-    unfolding group_of
-    group_yes = rw (e, f, g, h, t)
-
-pub group_no : (p q r s : ℕ) → four_letters p q r s ≡ false → record { letters = false; first = 0; second = 0; third = 0 } ≡ group_of p q r s
-unfolding group_of
-group_no p q r s t = rw t

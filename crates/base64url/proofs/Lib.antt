@@ -1,7 +1,6 @@
 pub mod Table
 pub mod Run
 pub mod Groups
-pub mod Stored
 pub mod Turns
 pub mod Count
 pub mod Read

@@ -16,10 +16,9 @@ use Rattle.octets.specs.Bytes.{Bytes}
 use Rattle.octets.proofs.Lists.{byte-at}
 use Rattle.form.specs.Regex.{Re, none, empty, upto, ◌·◌, ◌∣◌, char, times, nullable, alive, is_none, alt', deriv, judge_from, judge}
 use Rattle.form.specs.Listings.{letter, condition_form, packet_form}
-use Rattle.form.specs.declared.Verdict.{Verdict}
-use Rattle.form.specs.declared.Verdict.TheVariants.{Fits, Stops}
+use Rattle.form.specs.Verdict.{Verdict, of_form, stops_at}
 use Rattle.base64url.specs.Letters.{alphabet, place_from, value_of, is_letter}
-use Rattle.base64url.specs.Scan.{letters_first, pad_at, past_pad}
+use Rattle.base64url.specs.Scan.{all_letters, letters_first, pad_at, past_pad}
 use Rattle.base64url.proofs.Table.{letter-passed, letter_missed}
 
 pub true_false : {A : Type 0} → false ≡ true → A
@@ -29,17 +28,13 @@ pub and-true : (x y : Bool) → x && y ≡ true → (x ≡ true) × (y ≡ true)
 and-true true y e = (refl, e)
 and-true false y e = true_false e
 
-unfoldable pub all_letters : List ℕ → Bool
-all_letters [] = true
-all_letters (c ∷ cs) = is_letter c && all_letters cs
-
 -- a class l of characters, and then the form t
 module _ (l t : Re) (f : nullable l ≡ false) where
   first_goes : is_none t ≡ false → alive t ≡ true → (m c : ℕ) (cs : List ℕ) → deriv c l ≡ empty → judge_from (l · t) m
       (c ∷ cs) ≡ judge_from t (suc m) cs
   first_goes n a m c cs e = simp (e, f, n, a)
 
-  first_stops : (m c : ℕ) (cs : List ℕ) → deriv c l ≡ none → judge_from (l · t) m (c ∷ cs) ≡ Stops m
+  first_stops : (m c : ℕ) (cs : List ℕ) → deriv c l ≡ none → judge_from (l · t) m (c ∷ cs) ≡ stops_at m
   first_stops m c cs e = simp (e, f)
 
 module _ (l : Re) (a : alive l ≡ true) where
@@ -60,12 +55,12 @@ Misses l = (c : ℕ) → c < 256 → is_letter c ≡ false → deriv c l ≡ non
 
 -- how a text stands to the form of k letters
 pub record Whole (v : Verdict) (k : ℕ) (s : List ℕ) : Type 0 where
-  pub fits : v ≡ Fits
+  pub fits : v ≡ of_form
   pub long : length s ≡ k
   pub letters : all_letters s ≡ true
 
 pub record Broken (v : Verdict) (k m : ℕ) (s : List ℕ) : Type 0 where
-  pub stops : v ≡ Stops (m + letters_first k s)
+  pub stops : v ≡ stops_at (m + letters_first k s)
   pub lacks : length s ≡ k → all_letters s ≡ true → ⊥
 
 module _ (l : Re) (a : alive l ≡ true) (f : nullable l ≡ false) (good : Passes l) (bad : Misses l) where
@@ -85,7 +80,7 @@ module _ (l : Re) (a : alive l ≡ true) (f : nullable l ≡ false) (good : Pass
           ⊎_elim (λ x. inl (record { fits = g ∙ x.fits; long = ap suc x.long; letters = rw e x.letters }))
           (λ x. inr
           (record {
-            stops = g ∙ x.stops ∙ ap Stops (rw e (omega arith));
+            stops = g ∙ x.stops ∙ ap (λ (n : ℕ). stops_at n) (rw e (omega arith));
             lacks = λ p q. x.lacks (omega arith) (rw e at q);
           })) w
 
@@ -97,7 +92,7 @@ module _ (l : Re) (a : alive l ≡ true) (f : nullable l ≡ false) (good : Pass
       go false e w =
           inr
           (record {
-            stops = first_stops l (times n l) f m c cs (bad c b.0 e) ∙ ap Stops (rw e (omega arith));
+            stops = first_stops l (times n l) f m c cs (bad c b.0 e) ∙ ap (λ (n : ℕ). stops_at n) (rw e (omega arith));
             lacks = λ p q. true_false (rw e at q);
           })
 
@@ -204,10 +199,10 @@ counted (suc n) m (c ∷ cs) b = go (is_letter c) refl (letters_first n cs) (cou
 
 -- a place at which the text may end, and at which nothing goes on
 halt : (r : Re) (s : List ℕ) (i : ℕ) → nullable r ≡ true → i ≤ length s → (i < length s → alive (deriv (get_or s i 0) r) ≡ false) →
-    judge_from r i (drop i s) ≡ cond (ltb i (length s)) (Stops i) Fits
+    judge_from r i (drop i s) ≡ cond (ltb i (length s)) (stops_at i) of_form
 halt r s i e k f = go (ltb i (length s)) refl
   where
-    go : (x : Bool) → ltb i (length s) ≡ x → judge_from r i (drop i s) ≡ cond x (Stops i) Fits
+    go : (x : Bool) → ltb i (length s) ≡ x → judge_from r i (drop i s) ≡ cond x (stops_at i) of_form
     go true g = let h = ltb-true i (length s) g in ap (judge_from r i) (drop-cons s i 0 h) ∙ rw (f h)
     go false g =
         let h : i ≡ length s = omega (arith, ltb-false i (length s) g) in
@@ -223,7 +218,7 @@ padded_dead (suc j) c h = ap (λ (r : Re). alive (alt' none r)) (h (omega arith)
 
 padded_pads : (j m c : ℕ) (cs : List ℕ) → 0 < j → deriv c pad ≡ empty → judge_from (padded pad j) m (c ∷ cs) ≡ judge_from empty (suc m) cs
 padded_pads zero m c cs h e = absurd (omega arith)
-padded_pads (suc j) m c cs h e = ap (λ (r : Re). cond (alive (alt' none r)) (judge_from (alt' none r) (suc m) cs) (Stops m)) e
+padded_pads (suc j) m c cs h e = ap (λ (r : Re). cond (alive (alt' none r)) (judge_from (alt' none r) (suc m) cs) (stops_at m)) e
 
 -- the place past a pad
 pub past_yes : (s : List ℕ) (i : ℕ) → pad_at s i ≡ true → past_pad s i ≡ i + 1
@@ -252,7 +247,7 @@ module _ (s : List ℕ) (i : ℕ) where
 -- the verdict on what follows n letters, when none follows or none may follow: at most two pads, within the limit, and then the end
 module _ (s : List ℕ) (b : Bytes s) (n : ℕ) (k : n ≤ length s) (o : n < 32768 → n < length s → is_letter (get_or s n 0) ≡ false) where
   abbrev Rest : ℕ → Type 0
-  Rest e = judge_from (tail letter pad (32768 - n)) n (drop n s) ≡ cond (ltb e (length s)) (Stops e) Fits
+  Rest e = judge_from (tail letter pad (32768 - n)) n (drop n s) ≡ cond (ltb e (length s)) (stops_at e) of_form
 
   unpadded : pad_at s n ≡ false → Rest n
   unpadded e = halt (tail letter pad (32768 - n)) s n (tail_ends letter pad refl refl (32768 - n)) k (λ h. dead h (ltb n 32768) refl)
@@ -303,10 +298,10 @@ module _ (s : List ℕ) (b : Bytes s) (n : ℕ) (k : n ≤ length s) (o : n < 32
 
 -- the verdict on a packet: no letter at all, or letters and then what `ends` says
 abbrev Ended : List ℕ → ℕ → Type 0
-Ended s e = judge packet_form s ≡ cond (ltb e (length s)) (Stops e) Fits
+Ended s e = judge packet_form s ≡ cond (ltb e (length s)) (stops_at e) of_form
 
 pub judged_packet : (s : List ℕ) → Bytes s → (n : ℕ) → n ≡ letters_first 32768 s →
-    ((n ≡ 0) × (judge packet_form s ≡ Stops 0)) ⊎ (0 < n) × Ended s (past_pad s (past_pad s n))
+    ((n ≡ 0) × (judge packet_form s ≡ stops_at 0)) ⊎ (0 < n) × Ended s (past_pad s (past_pad s n))
 unfolding letters_first
 judged_packet [] b n e = inl (e, refl)
 judged_packet (c ∷ cs) b n e = go (is_letter c) refl e
@@ -321,10 +316,10 @@ judged_packet (c ∷ cs) b n e = go (is_letter c) refl e
         ∙ ap (λ (i : ℕ). judge_from (tail letter pad (32767 - a)) i (drop a cs)) q
         ∙ ap (λ (k : ℕ). judge_from (tail letter pad k) (suc a) (drop a cs)) p
         ∙ subst (λ (m : ℕ). judge_from (tail letter pad (32768 - suc a)) (suc a) (drop (suc a) (c ∷ cs)) ≡
-        cond (ltb (past_pad (c ∷ cs) (past_pad (c ∷ cs) m)) (length (c ∷ cs))) (Stops (past_pad (c ∷ cs) (past_pad (c ∷ cs) m))) Fits) (sym f)
+        cond (ltb (past_pad (c ∷ cs) (past_pad (c ∷ cs) m)) (length (c ∷ cs))) (stops_at (past_pad (c ∷ cs) (past_pad (c ∷ cs) m))) of_form) (sym f)
         (ends (c ∷ cs) b (suc a) (omega (arith, w.inside)) (λ h k. w.next (omega arith) (omega arith)))
 
     go : (x : Bool) → is_letter c ≡ x → n ≡ cond x (suc (letters_first 32767 cs)) 0 →
-        ((n ≡ 0) × (judge packet_form (c ∷ cs) ≡ Stops 0)) ⊎ (0 < n) × Ended (c ∷ cs) (past_pad (c ∷ cs) (past_pad (c ∷ cs) n))
+        ((n ≡ 0) × (judge packet_form (c ∷ cs) ≡ stops_at 0)) ⊎ (0 < n) × Ended (c ∷ cs) (past_pad (c ∷ cs) (past_pad (c ∷ cs) n))
     go true x f = inr (omega (arith, f), some x f)
     go false x f = inl (f, first_stops letter (tail letter pad 32767) refl 0 c cs (letter_missed c b.0 x))

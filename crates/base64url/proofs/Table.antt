@@ -15,10 +15,11 @@ use Rattle.octets.proofs.Computed.{both, both_left, both_right, below, below_at,
 use Rattle.octets.proofs.Built.{length-build, build_at}
 use Rattle.form.specs.Regex.{Re, none, empty, alive, deriv, judge_from}
 use Rattle.form.specs.Matches.{Matches}
-use Rattle.form.specs.declared.Verdict.TheVariants.{Stops}
+use Rattle.form.specs.Verdict.{stops_at}
 use Rattle.form.proofs.Meaning.{fits, stops-fits}
 use Rattle.form.specs.Listings.{letter}
 use Rattle.form.proofs.Same.{same, same-eq}
+use Rattle.base64url.specs.declared.TheConstants.{VALUE, LETTER}
 use Rattle.base64url.specs.Letters.{alphabet, letter_of, place_from, value_of, is_letter, reading_table}
 
 -- at the byte c stands v: a letter's value, and c passes the listing's class; or the mark, and the class has no such byte
@@ -51,10 +52,22 @@ module _ (v : ℕ) (h : v < 64) where
       eqb→eq (value_of (letter_of v)) v
       (both_right (ltb (letter_of v) 256) (eqb (value_of (letter_of v)) v) (below_at 64 letter_rule letters_tested v h))
 
+-- the code's tables are these
+value-table : VALUE ≡ reading_table
+unfolding reading_table build value_of place_from alphabet
+value-table = refl
+
+pub letter_at : (v : ℕ) → get_or LETTER v 0 ≡ letter_of v
+unfolding letter_of alphabet
+letter_at v = refl
+
 module _ (c : ℕ) (h : c < 256) where
   pub table_at : get_or reading_table c 0 ≡ value_of c
   unfolding reading_table
   table_at = build_at value_of 256 c h
+
+  pub value_at : get_or VALUE c 0 ≡ value_of c
+  value_at = ap (λ (t : List ℕ). get_or t c 0) value-table ∙ table_at
 
   ruled : (x : Bool) → is_letter c ≡ x → Ruled c (value_of c) x
   unfolding reading_table
@@ -92,12 +105,12 @@ in_range c h = go (is_letter c) refl
     go : (x : Bool) → is_letter c ≡ x → (get_or reading_table c 0 < 64) ↔ Matches letter (c ∷ [])
     go true e =
         let v : get_or reading_table c 0 < 64 = rw (table_at c h) (ltb-true (value_of c) 64 e) in
-        (λ p. (fits letter (c ∷ [])).0 (ap (λ (r : Re). cond (alive r) (judge_from r 1 []) (Stops 0)) (letter-passed c h e)), λ m. v)
+        (λ p. (fits letter (c ∷ [])).0 (ap (λ (r : Re). cond (alive r) (judge_from r 1 []) (stops_at 0)) (letter-passed c h e)), λ m. v)
     go false e =
         let v : get_or reading_table c 0 ≡ 255 = table_at c h ∙ marked c h e in (
           λ p. absurd (omega (arith, v)),
           λ m. stops-fits
-              (sym (ap (λ (r : Re). cond (alive r) (judge_from r 1 []) (Stops 0)) (letter_missed c h e)) ∙ (fits letter (c ∷ [])).1 m),
+              (sym (ap (λ (r : Re). cond (alive r) (judge_from r 1 []) (stops_at 0)) (letter_missed c h e)) ∙ (fits letter (c ∷ [])).1 m),
         )
 
 pub table : Rule reading_table

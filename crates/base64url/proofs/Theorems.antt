@@ -6,7 +6,7 @@ use mathlib.Core.Logic.{⊎_elim, ◌↔◌}
 use Prim.Native.Nat.{ℕ, zero, suc, ◌+◌, ◌*◌, ◌/◌, ◌%◌, ◌<◌}
 use native.Mathlib.Omega.{arith}
 use lib.Dec.{ltb}
-use lib.ListN.{length, get_or, take, replicate, length-append, length-map}
+use lib.ListN.{length, get_or, take, length-append, length-map}
 use lib.Seq.{take-suc, take_all, take_at, get_or_at, length-take-le}
 use borrow.Author.Tests.{lt-ltb, ltb-true, ltb-false}
 use Rattle.octets.specs.Bytes.{Bytes}
@@ -14,15 +14,15 @@ use Rattle.form.specs.Regex.{judge}
 use Rattle.form.specs.Listings.{condition_form}
 use Rattle.form.specs.Matches.{Matches}
 use Rattle.form.specs.Writing.{number}
-use Rattle.form.specs.declared.Verdict.{Verdict}
-use Rattle.form.specs.declared.Verdict.TheVariants.{Fits, Stops}
+use Rattle.std.specs.Prelude.{Ok, Err}
+use Rattle.form.specs.Verdict.{Verdict, of_form, value_by}
 use Rattle.form.proofs.Meaning.{fits, stops-fits}
 use Rattle.form.proofs.Places.{matched_bytes}
 use Rattle.base64url.specs.Letters.{letter_of, value_of, is_letter}
-use Rattle.base64url.specs.Condition.{bytes_of, values_of, answer, read_condition, condition_text, write_condition}
-use Rattle.base64url.specs.declared.ConditionRead.{ConditionRead}
+use Rattle.base64url.specs.Condition.{bytes_of, values_of, read_condition, condition_text, write_condition}
 use Rattle.base64url.proofs.Table.{letter_byte, value-letter, letter-value}
-use Rattle.base64url.proofs.Run.{and-true, all_letters, judged_condition}
+use Rattle.base64url.specs.Scan.{all_letters}
+use Rattle.base64url.proofs.Run.{and-true, judged_condition}
 use Rattle.base64url.proofs.Groups.{Values, values_small, bytes_small, back, length-bytes, length-values, dropped, cleared}
 use Rattle.base64url.proofs.Read.{fitted}
 use Rattle.base64url.proofs.Write.{not_32, no_room, room_enough}
@@ -62,64 +62,52 @@ pub record Spelled (s b v : List ℕ) : Type 0 where
   pub bytes : bytes_of v ≡ b
 
 abbrev ReadsTo : List ℕ → List ℕ → Type 0
-ReadsTo s b = read_condition s ≡ record { verdict = Fits; bytes = b }
+ReadsTo s b = read_condition s ≡ Ok b
 
-verdict-is : (s : List ℕ) → (read_condition s).verdict ≡ judge condition_form s
-unfolding read_condition
-verdict-is s = go (judge condition_form s)
-  where
-    go : (v : Verdict) → (answer v (bytes_of (map value_of s))).verdict ≡ v
-    go Fits = refl
-    go (Stops n) = refl
+-- a text with a value is of the form, and the value is its bytes
+has_value : (v : Verdict) (x b : List ℕ) → value_by v x ≡ Ok b → (v ≡ of_form) × (x ≡ b)
+has_value (Ok u) x b e = (refl, cc)
+has_value (Err n) x b e = absurd (let z : ◌≡◌ {A = ℕ} 0 1 = cc in omega arith)
 
-fits-spelled : (s : List ℕ) → judge condition_form s ≡ Fits → Spelled s (read_condition s).bytes (map value_of s)
+reads_fits : (s b : List ℕ) → ReadsTo s b → (judge condition_form s ≡ of_form) × (bytes_of (map value_of s) ≡ b)
 unfolding read_condition
-fits-spelled s f =
-    let b = matched_bytes ((fits condition_form s).0 f) tt in
+reads_fits s b e = has_value (judge condition_form s) (bytes_of (map value_of s)) b e
+
+spelled : (s b : List ℕ) → ReadsTo s b → Spelled s b (map value_of s)
+spelled s b r =
+    let e = reads_fits s b r in
+    let small = matched_bytes ((fits condition_form s).0 e.0) tt in
     ⊎_elim
     (λ w. record {
       below = values-below s w.letters;
       long = length-map s value_of ∙ w.long;
-      text = values_written s b w.letters;
-      bytes = ap (λ (v : Verdict). (answer v (bytes_of (map value_of s))).bytes) (sym f);
+      text = values_written s small w.letters;
+      bytes = e.1;
     })
-    (λ w. stops-fits (sym w.stops ∙ f)) (judged_condition s b)
-
-spelled : (s b : List ℕ) → ReadsTo s b → Spelled s b (map value_of s)
-spelled s b e =
-    subst (λ (x : List ℕ). Spelled s x (map value_of s)) (ap (λ (r : ConditionRead). r.bytes) e)
-    (fits-spelled s (sym (verdict-is s) ∙ ap (λ (r : ConditionRead). r.verdict) e))
+    (λ w. stops-fits (sym w.stops ∙ e.0)) (judged_condition s small)
 
 reads : (v : List ℕ) → Values v → length v ≡ 43 → ReadsTo (map letter_of v) (bytes_of v)
 reads v h l =
     sym
-    (fitted (map letter_of v) (letters_bytes v h) (bytes_of v) (ap bytes_of (sym (letters_read v h))) (length-map v letter_of ∙ l)
-    (letters_all v h))
+    (ap (λ (x : List ℕ). Ok (bytes_of x)) (sym (letters_read v h))
+    ∙ fitted (map letter_of v) (letters_bytes v h) (length-map v letter_of ∙ l) (letters_all v h))
 
 -- 01: a text has a value exactly if the listing matches; ..
-pub form : (s : List ℕ) → ((read_condition s).verdict ≡ Fits) ↔ Matches condition_form s
-form s = (λ e. (fits condition_form s).0 (sym (verdict-is s) ∙ e), λ m. verdict-is s ∙ (fits condition_form s).1 m)
+pub form : (s : List ℕ) → (((b : List ℕ) × ReadsTo s b) ↔ Matches condition_form s)
+unfolding read_condition
+form s = (
+  λ r. (fits condition_form s).0 (reads_fits s r.0 r.1).0,
+  λ m. (bytes_of (map value_of s), ap (λ (v : Verdict). value_by v (bytes_of (map value_of s))) ((fits condition_form s).1 m)),
+)
 
--- .. and what is given are 32 bytes, each below 256, in any case
+-- .. and what is given are 32 bytes, each below 256
 abbrev pub Holds : List ℕ → Type 0
 Holds b = (length b ≡ 32) × Bytes b
 
-zeros-bytes : (n : ℕ) → Bytes (replicate n 0)
-zeros-bytes zero = tt
-zeros-bytes (suc n) = (omega arith, zeros-bytes n)
-
-refused_zeros : (s : List ℕ) (n : ℕ) → judge condition_form s ≡ Stops n → (read_condition s).bytes ≡ replicate 32 0
-unfolding read_condition
-refused_zeros s n e = ap (λ (v : Verdict). (answer v (bytes_of (map value_of s))).bytes) e
-
-pub held : (s : List ℕ) → Holds (read_condition s).bytes
-held s = go (judge condition_form s) refl
-  where
-    go : (v : Verdict) → judge condition_form s ≡ v → Holds (read_condition s).bytes
-    go Fits e =
-        let w = fits-spelled s e in
-        subst Holds w.bytes (length-bytes 10 (map value_of s) w.long, bytes_small (map value_of s) w.below)
-    go (Stops n) e = subst Holds (sym (refused_zeros s n e)) (refl, zeros-bytes 32)
+pub held : (s b : List ℕ) → ReadsTo s b → Holds b
+held s b r =
+    let w = spelled s b r in
+    subst Holds w.bytes (length-bytes 10 (map value_of s) w.long, bytes_small (map value_of s) w.below)
 
 -- for every 32 bytes their text is of the form and reads to them
 module _ (b : List ℕ) (long : length b ≡ 32) (small : Bytes b) where
@@ -127,8 +115,8 @@ module _ (b : List ℕ) (long : length b ≡ 32) (small : Bytes b) where
   unfolding condition_text
   round =
       let e = reads (values_of b) (values_small b small) (length-values 10 b long) ∙ ap
-      (λ (x : List ℕ). record { verdict = Fits; bytes = x }) (back b small) in
-      (e, (form (condition_text b)).0 (ap (λ (r : ConditionRead). r.verdict) e))
+      Ok (back b small) in
+      (e, (form (condition_text b)).0 (b, e))
 
 -- the writer refuses with 1 exactly what no text reads to
 pub refused : (b : List ℕ) (room : ℕ) → Bytes b → (number (write_condition b room) ≡ 1) ↔ ((s : List ℕ) → ReadsTo s b → ⊥)
@@ -136,7 +124,7 @@ refused b room small = (unread, unwritten)
   where
     unread : number (write_condition b room) ≡ 1 → (s : List ℕ) → ReadsTo s b → ⊥
     unread e s r =
-        let l : length b ≡ 32 = ap (λ (x : ConditionRead). length x.bytes) (sym r) ∙ (held s).0 in
+        let l = (held s b r).0 in
         never (ltb room 43) refl l e
       where
         never : (x : Bool) → ltb room 43 ≡ x → length b ≡ 32 → number (write_condition b room) ≡ 1 → ⊥
@@ -247,7 +235,7 @@ module _ (b : List ℕ) (long : length b ≡ 32) (small : Bytes b) where
       let d : (end + k) / 4 ≡ end / 4 = omega (arith, end-zero) in
       ap read_condition (text-is front end front_long b end_below spelt k)
       ∙ reads (front ++ ((end + k) ∷ [])) (values-joined front (end + k) front_below q) n
-      ∙ ap (λ (a : List ℕ). record { verdict = Fits; bytes = a })
+      ∙ ap Ok
       (dropped 10 front (end + k) end front_long d ∙ ap bytes_of (sym cut) ∙ back b small)
 
   pub four : (s : List ℕ) → ReadsTo s b ↔ ((k : ℕ) × (k < 4) × (s ≡ text_of b k))

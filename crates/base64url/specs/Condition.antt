@@ -1,14 +1,13 @@
 -- The 32 bytes of a condition or fulfilment, and their text of 43 letters (01, "Condition and fulfilment"; RFC 4648, sections 4 and 5).
-use Rattle.std.specs.Prelude.{ℕ, ◌+◌, ◌*◌, ◌/◌, ◌%◌, List, [], ◌∷◌, ◌++◌, map, cond, eqb, length, replicate}
+use Rattle.std.specs.Prelude.{ℕ, ◌+◌, ◌*◌, ◌/◌, ◌%◌, List, [], ◌∷◌, ◌++◌, map, cond, eqb, length, Result, Err}
 use Rattle.form.specs.Regex.{judge}
 use Rattle.form.specs.Listings.{condition_form}
 use Rattle.form.specs.Writing.{into_room}
-use Rattle.form.specs.declared.Verdict.{Verdict}
-use Rattle.form.specs.declared.Verdict.TheVariants.{Fits, Stops}
-use Rattle.form.specs.declared.Written.{Written}
-use Rattle.form.specs.declared.Written.TheVariants.{NotInForm}
+use Rattle.form.specs.Verdict.{value_by}
+use Rattle.form.specs.declared.Stop.{Stop}
+use Rattle.form.specs.Writing.{Written}
+use Rattle.form.specs.declared.Unwritten.TheVariants.{NotInForm}
 use Rattle.base64url.specs.Letters.{letter_of, value_of}
-use Rattle.base64url.specs.declared.ConditionRead.{ConditionRead}
 
 -- RFC 4648, section 4: four values of 6 bits, one after the other, are three bytes
 abbrev pub three_bytes : ℕ → ℕ → ℕ → ℕ → List ℕ
@@ -38,18 +37,13 @@ values_of (x ∷ y ∷ []) = last_values x y
 values_of (x ∷ []) = (x / 4) ∷ (x % 4 * 16) ∷ []
 values_of [] = []
 
--- a text of the form has its bytes; any other is refused where the form stops
-abbrev pub answer : Verdict → List ℕ → ConditionRead
-answer Fits b = record { verdict = Fits; bytes = b }
-answer (Stops n) b = record { verdict = Stops n; bytes = replicate 32 0 }
-
 -- 01: "43 characters A-Z a-z 0-9 - _, base64url without padding, 32 bytes"
-unfoldable pub read_condition : List ℕ → ConditionRead
-read_condition s = answer (judge condition_form s) (bytes_of (map value_of s))
+unfoldable pub read_condition : List ℕ → Result (List ℕ) Stop
+read_condition s = value_by (judge condition_form s) (bytes_of (map value_of s))
 
 unfoldable pub condition_text : List ℕ → List ℕ
 condition_text b = map letter_of (values_of b)
 
 -- 01, "Writers": "1 for .. a condition not of 32 bytes"; "23"
 unfoldable pub write_condition : List ℕ → ℕ → Written
-write_condition b room = cond (eqb (length b) 32) (into_room (condition_text b) room) NotInForm
+write_condition b room = cond (eqb (length b) 32) (into_room (condition_text b) room) (Err NotInForm)

@@ -1,30 +1,35 @@
 -- What the inner functions of the readers find in a text; no public promise cites these.
-use Rattle.std.specs.Prelude.{ℕ, zero, suc, ◌+◌, List, [], ◌∷◌, Bool, true, false, cond, ◌&&◌, ltb, eqb, length, get_or}
+use Rattle.std.specs.Prelude.{ℕ, zero, suc, ◌+◌, ◌-◌, ◌≡◌, List, [], ◌∷◌, Bool, true, cond, ◌&&◌, ltb, eqb, length, get_or, drop, Option, Some, None}
 use Prim.Native.Char.{code}
 use Rattle.base64url.specs.Letters.{value_of, is_letter}
 use Rattle.base64url.specs.Condition.{three_bytes}
-use Rattle.base64url.specs.declared.Group.{Group}
 
 -- four characters are all letters
-abbrev pub four_letters : ℕ → ℕ → ℕ → ℕ → Bool
-four_letters p q r s = is_letter p && is_letter q && is_letter r && is_letter s
+abbrev pub four_letters : List ℕ → Bool
+four_letters f = is_letter (get_or f 0 0) && is_letter (get_or f 1 0) && is_letter (get_or f 2 0) && is_letter (get_or f 3 0)
 
--- three bytes as a group
-abbrev pub as_group : List ℕ → Group
-as_group b = record { letters = true; first = get_or b 0 0; second = get_or b 1 0; third = get_or b 2 0 }
+-- the three bytes of four characters, by their values
+abbrev pub bytes_of_four : List ℕ → List ℕ
+bytes_of_four f = three_bytes (value_of (get_or f 0 0)) (value_of (get_or f 1 0)) (value_of (get_or f 2 0)) (value_of (get_or f 3 0))
 
 -- the three bytes of four characters, if they are letters
-unfoldable pub group_of : ℕ → ℕ → ℕ → ℕ → Group
-group_of p q r s =
-    cond (four_letters p q r s)
-    (as_group (three_bytes (value_of p) (value_of q) (value_of r) (value_of s)))
-    (record { letters = false; first = 0; second = 0; third = 0 })
+unfoldable pub group_of : List ℕ → Option (List ℕ)
+group_of f = cond (four_letters f) (Some (bytes_of_four f)) None
+
+-- all characters are letters
+unfoldable pub all_letters : List ℕ → Bool
+all_letters [] = true
+all_letters (c ∷ cs) = is_letter c && all_letters cs
 
 -- how many letters a text begins with, counted to n
 unfoldable pub letters_first : ℕ → List ℕ → ℕ
 letters_first zero s = 0
 letters_first (suc n) [] = 0
 letters_first (suc n) (c ∷ cs) = cond (is_letter c) (suc (letters_first n cs)) 0
+
+-- i letters passed, and those to come, counted to n in all
+abbrev pub Passed : ℕ → List ℕ → ℕ → ℕ → Type 0
+Passed n s whole i = i + letters_first (n - i) (drop i s) ≡ whole
 
 -- a `=` stands at i, within the limit
 abbrev pub pad_at : List ℕ → ℕ → Bool

@@ -4,16 +4,17 @@ use mathlib.Core.Path.{◌≡◌, refl, ap, sym, ◌∙◌}
 use mathlib.Core.Bool.{Bool, true, false, cond, not, false≢true, ◌&&◌}
 use mathlib.Core.Logic.{◌⊎◌, inl, inr}
 use mathlib.Core.List.{List, []}
-use mathlib.Core.Option.{some}
+use mathlib.Core.Option.{none, some}
+use Rattle.std.specs.Prelude.{Option, Some, None}
 use native.Mathlib.Omega.{arith}
 use lib.Dec.{eqb}
 use lib.ListN.{length, get_or}
-use borrow.Author.Tests.{not-true}
+use borrow.Author.Tests.{not-true, lt-ltb}
 use Rattle.octets.specs.Parts.{same}
 use Rattle.octets.proofs.Search.{index-passes}
 use Rattle.octets.proofs.Tests.{and_left}
 use Rattle.record.specs.Layout.{Row, get, num, is_free}
-use Rattle.record.specs.Layout.{id_field, state_field, payee_field, ended_by_field, code_field, fulfilment_field}
+use Rattle.record.specs.Layout.{id_field, state_field, payee_field, number_field, ended_by_field, code_field, fulfilment_field}
 use Rattle.record.specs.Rows.{row, holds}
 use Rattle.record.proofs.Rows.{length-rows, rows_at, length-row}
 use Rattle.rules.specs.declared.Answer.{Answer}
@@ -29,10 +30,10 @@ use Rattle.shape.specs.Seen.{seen}
 use Rattle.shape.proofs.Sound.{sound_named, shape_of}
 use Rattle.book.specs.declared.Decision.{Decision}
 use Rattle.book.specs.declared.Place.{Place}
-use Rattle.book.specs.declared.Place.TheVariants.{Opened, Ended, Nowhere}
-use Rattle.book.specs.Step.{replied, slot_of, where_is}
+use Rattle.book.specs.declared.Place.TheVariants.{Opened, Ended}
+use Rattle.book.specs.Step.{replied, slot_of, where_is, record_in}
 use Rattle.book.specs.Ending.{ended_at}
-use Rattle.book.specs.Inner.{resent, judged_by, InBooks, PayeeKnown, CanEnd, carried_out, row_at, Decided, by_payee}
+use Rattle.book.specs.Inner.{resent, InBooks, Inside, PayeeNamed, CanEnd, carried_out, row_at, Decided, by_payee}
 use Rattle.book.proofs.Held.{held_at, opened_at, ended_at_lem}
 use Rattle.book.proofs.Ends.{ending_can, ending_sound}
 
@@ -69,19 +70,18 @@ module _ (b : Book) (s : Sound b) where
   held_open id l = (s.slot (slot_of b id) l).taken (holding id l)
 
   -- a record that is found is in its book, and its payee has an account
-  found_in : (book : List ℕ) (k : ℕ) → k * 160 + 160 ≤ length book → num payee_field (row book k) < b.head.count → PayeeKnown b.head book k
-  found_in book k long payee = record {
-    inside = long;
-    payee = record { long = length-row book k long; named = sound_named b s; payee = payee };
-  }
+  pub inside_found : (id : List ℕ) (p : Place) → where_is b id ≡ Some p → Inside b.opened b.ended p
+  inside_found id (Opened k) e = in_open k (opened_at b id k e).1
+  inside_found id (Ended k) e = in_ended k (ended_at_lem b id k e)
 
-  pub found_opened : (id : List ℕ) (k : ℕ) → where_is b id ≡ Opened k → PayeeKnown b.head b.opened k
-  found_opened id k e =
+  named_in : (book : List ℕ) (k : ℕ) → k * 160 + 160 ≤ length book → num payee_field (row book k) < b.head.count → PayeeNamed b.head (row book k)
+  named_in book k long payee = record { long = length-row book k long; named = sound_named b s; payee = payee }
+
+  pub payee_found : (id : List ℕ) (p : Place) → where_is b id ≡ Some p → PayeeNamed b.head (record_in b.opened b.ended p)
+  payee_found id (Opened k) e =
       let p = opened_at b id k e in
-      found_in b.opened k (in_open k p.1) (rw p.0 (held_open id (omega (arith, p.0, p.1))).body.payee)
-
-  pub found-ended : (id : List ℕ) (k : ℕ) → where_is b id ≡ Ended k → PayeeKnown b.head b.ended k
-  found-ended id k e = let l = ended_at_lem b id k e in found_in b.ended k (in_ended k l) (s.place k l).body.payee
+      named_in b.opened k (in_open k p.1) (rw p.0 (held_open id (omega (arith, p.0, p.1))).body.payee)
+  payee_found id (Ended k) e = let l = ended_at_lem b id k e in named_in b.ended k (in_ended k l) (s.place k l).body.payee
 
 -- a finished record is not RESERVED
 ended_state : (t d : Bool) (f : List ℕ) (code : ℕ) → cond t (committed f) (cond d (aborted code) expired) ≡ reserved → ⊥
@@ -107,44 +107,73 @@ by_the_payee : (t : Bool) (a : Answer) → is_done (cond t a NotThePayee) ≡ tr
 by_the_payee true a e = e
 by_the_payee false a e = clash e
 
+some_place : {p q : Place} → ◌≡◌ {A = Option Place} (Some p) (Some q) → p ≡ q
+some_place e = cc
+
+-- the transfer at a place
+abbrev pub transfer_in : Book → Place → Transfer
+transfer_in b p = transfer_of (names_of b.head) (record_in b.opened b.ended p)
+
+pub transfer_found : (b : Book) (id : List ℕ) (p : Place) → where_is b id ≡ Some p → held_transfer b id ≡ some (transfer_in b p)
+transfer_found b id p e = ap (map_some (transfer_of (names_of b.head))) (held_at b id ∙ ap (row_at b) e)
+
+pub transfer_nowhere : (b : Book) (id : List ℕ) → where_is b id ≡ None → held_transfer b id ≡ none
+transfer_nowhere b id e = ap (map_some (transfer_of (names_of b.head))) (held_at b id ∙ ap (row_at b) e)
+
 -- the answers by the state are such that only a RESERVED transfer ends
 module _
     (b : Book) (s : Sound b) (sender id : List ℕ) (by_state : Transfer → Answer)
-    (ends : (t : Transfer) → is_done (by_state t) ≡ true → t.state ≡ reserved) (d : Decision) where
-  -- the decision on a record
-  abbrev pub OnRecord : Row → ℕ → Type 0
-  OnRecord r slot = d ≡ judged_by b.head r sender (by_state (transfer_of (names_of b.head) r)) slot
-
-  found : (p : Place) → where_is b id ≡ p → held_transfer b id ≡ map_some (transfer_of (names_of b.head)) (row_at b p)
-  found p e = ap (map_some (transfer_of (names_of b.head))) (held_at b id ∙ ap (row_at b) e)
-
-  judged_answer : (r : Row) (slot : ℕ) → held_transfer b id ≡ some (transfer_of (names_of b.head) r) → OnRecord r slot →
-      (d.answer ≡ payee_rules (held_transfer b id) sender by_state) × (d.mark ≡ number_or 0 (held_transfer b id))
+    (ends : (t : Transfer) → is_done (by_state t) ≡ true → t.state ≡ reserved) where
+  -- where 0 is answered the id is in the open book
+  pub done_taken : is_done (payee_rules (held_transfer b id) sender by_state) ≡ true → slot_of b id < b.head.slots
   unfolding transfer_of
-  judged_answer r slot e f = rw (e, f) (refl, refl)
+  done_taken e = by (where_is b id) refl
+    where
+      by : (q : Option Place) → where_is b id ≡ q → slot_of b id < b.head.slots
+      by (Some (Opened k)) w = let p = opened_at b id k w in omega (arith, p.0, p.1)
+      by (Some (Ended k)) w =
+          let t = transfer_in b (Ended k) in
+          let done : is_done (cond (same t.content.payee sender) (by_state t) NotThePayee) ≡ true = rw (transfer_found b id (Ended k) w) at e in
+          absurd (not-reserved b.head.count (row b.ended k) (s.place k (ended_at_lem b id k w))
+          (ends t (by_the_payee (same t.content.payee sender) (by_state t) done)))
+      by None w = clash (rw (transfer_nowhere b id w) at e)
 
-  pub decided_opened : (k : ℕ) → where_is b id ≡ Opened k → OnRecord (row b.opened k) k → Decided b sender id by_state d
-  decided_opened k e f =
-      let p = opened_at b id k e in
-      let a = judged_answer (row b.opened k) k (found (Opened k) e) f in
-      record { answer = a.0; mark = a.1; slot = λ z. ap (λ (x : Decision). x.slot) f ∙ p.0; taken = λ z. omega (arith, p.0, p.1) }
+  -- so the slot of a decision counts on an open record only
+  pub decides : (d : Decision) → d.answer ≡ payee_rules (held_transfer b id) sender by_state → d.mark ≡ number_or 0 (held_transfer b id) →
+      (is_done d.answer ≡ true → where_is b id ≡ Some (Opened (slot_of b id)) → d.slot ≡ slot_of b id) → Decided b sender id by_state d
+  decides d answer mark slot =
+      let taken : is_done d.answer ≡ true → slot_of b id < b.head.slots = λ z. done_taken (sym (ap is_done answer) ∙ z) in
+      record {
+        answer = answer;
+        mark = mark;
+        slot = λ z. let h = taken z in slot z (rw (lt-ltb (slot_of b id) b.head.slots h));
+        taken = taken;
+      }
 
-  pub decided-ended : (k slot : ℕ) → where_is b id ≡ Ended k → OnRecord (row b.ended k) slot → Decided b sender id by_state d
-  unfolding transfer_of
-  decided-ended k slot e f =
-      let r = row b.ended k in
-      let t = transfer_of (names_of b.head) r in
-      let a = judged_answer r slot (found (Ended k) e) f in
-      let never : is_done d.answer ≡ true → ⊥ = λ z.
-      not-reserved b.head.count r (s.place k (ended_at_lem b id k e))
-      (ends t (by_the_payee (same (get_or (names_of b.head) (num payee_field r) []) sender) (by_state t) (rw f at z))) in
-      record { answer = a.0; mark = a.1; slot = λ z. absurd (never z); taken = λ z. absurd (never z) }
-
-  pub decided_nowhere : (slot : ℕ) → where_is b id ≡ Nowhere → d ≡ record { answer = UnknownId; mark = 0; slot = slot } →
+  -- so it is decided: 11, 12, or the answer by the state
+  pub decided_nowhere : (d : Decision) → where_is b id ≡ None → d ≡ record { answer = UnknownId; mark = 0; slot = 0 } →
       Decided b sender id by_state d
-  decided_nowhere slot e f =
-      let g = found Nowhere e in
-      record { answer = rw (f, g); mark = rw (f, g); slot = λ z. clash (rw f at z); taken = λ z. clash (rw f at z) }
+  decided_nowhere d e f = rw f (decides _ (rw (transfer_nowhere b id e)) (rw (transfer_nowhere b id e)) (λ z. clash z))
+
+  module _ (p : Place) (e : where_is b id ≡ Some p) where
+    abbrev found : Row
+    found = record_in b.opened b.ended p
+
+    abbrev by_the_name : Bool
+    by_the_name = same (get_or (names_of b.head) (num payee_field found) []) sender
+
+    pub decided_other : (d : Decision) → by_the_name ≡ false →
+        d ≡ record { answer = NotThePayee; mark = num number_field found; slot = 0 } → Decided b sender id by_state d
+    unfolding transfer_of
+    decided_other d n f = rw f (decides _ (rw (transfer_found b id p e, n)) (rw (transfer_found b id p e)) (λ z. clash z))
+
+    pub decided_payee : (d : Decision) → by_the_name ≡ true → (a : Answer) (slot : ℕ) → a ≡ by_state (transfer_in b p) →
+        ((k : ℕ) → p ≡ Opened k → slot ≡ k) → d ≡ record { answer = a; mark = num number_field found; slot = slot } →
+        Decided b sender id by_state d
+    unfolding transfer_of
+    decided_payee d n a slot by_rule at f =
+        rw f (decides _ (rw (transfer_found b id p e, n, by_rule)) (rw (transfer_found b id p e))
+        (λ z w. at (slot_of b id) (some_place (sym e ∙ w))))
 
 -- what a decision leaves: where it is 0 the book with the record ended, and else the book as it was
 module _ (b : Book) (sender id : List ℕ) (by_state : Transfer → Answer) (d : Decision) (p : Decided b sender id by_state d) where
@@ -169,24 +198,6 @@ module _ (b : Book) (sender id : List ℕ) (by_state : Transfer → Answer) (d :
       left : cond (is_done d.answer) (ended d.slot) b
           ≡ cond (is_done (payee_rules (held_transfer b id) sender by_state)) (ended (slot_of b id)) b
       left = of_slot (is_done d.answer) p.slot ∙ ap (λ (a : Answer). cond (is_done a) (ended (slot_of b id)) b) p.answer
-
--- where 0 is answered the id is in the open book
-pub done_taken : (b : Book) → Sound b → (sender id : List ℕ) (by_state : Transfer → Answer) →
-    ((t : Transfer) → is_done (by_state t) ≡ true → t.state ≡ reserved) →
-    is_done (payee_rules (held_transfer b id) sender by_state) ≡ true → slot_of b id < b.head.slots
-done_taken b s sender id by_state ends e = by (where_is b id) refl
-  where
-    by : (p : Place) → where_is b id ≡ p → slot_of b id < b.head.slots
-    by (Opened k) w = let p = opened_at b id k w in omega (arith, p.0, p.1)
-    by (Ended k) w =
-        let r = row b.ended k in
-        let d : Decision = judged_by b.head r sender (by_state (transfer_of (names_of b.head) r)) 0 in
-        let p = decided-ended b s sender id by_state ends d k 0 w refl in
-        p.taken (ap is_done p.answer ∙ e)
-    by Nowhere w =
-        let d : Decision = record { answer = UnknownId; mark = 0; slot = 0 } in
-        let p = decided_nowhere b s sender id by_state ends d 0 w refl in
-        p.taken (ap is_done p.answer ∙ e)
 
 -- so what is left is of the shape, if the record as it ends is one of a finished book
 module _

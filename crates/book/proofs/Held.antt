@@ -4,6 +4,7 @@ use mathlib.Core.Path.{◌≡◌, refl, ap, ◌∙◌}
 use mathlib.Core.Bool.{Bool, true, false, cond}
 use mathlib.Core.List.{List, [], ◌∷◌, ◌++◌}
 use mathlib.Core.Option.{Option, none, some}
+use Rattle.std.specs.Prelude.{Some, None}
 use native.Mathlib.Omega.{arith}
 use lib.Dec.{ltb}
 use borrow.Author.Tests.{ltb-true, ltb-false}
@@ -13,7 +14,7 @@ use Rattle.record.specs.Layout.{Row}
 use Rattle.record.specs.Rows.{rows, row, holds}
 use Rattle.record.proofs.Rows.{length-rows, rows_at}
 use Rattle.shape.specs.Reading.{Book, open_rows, ended_rows, held_row}
-use Rattle.book.specs.declared.Place.TheVariants.{Opened, Ended, Nowhere}
+use Rattle.book.specs.declared.Place.TheVariants.{Opened, Ended}
 use Rattle.book.specs.Step.{slot_of, place_of, where_is}
 use Rattle.book.specs.Inner.{row_at}
 
@@ -53,29 +54,29 @@ held_at b id =
     (go (ltb (slot_of b id) b.head.slots) (ltb (place_of b id) b.head.finished))
   where
     go : (s t : Bool) → or_else (cond s (some (row b.opened (slot_of b id))) none) (cond t (some (row b.ended (place_of b id))) none)
-        ≡ row_at b (cond s (Opened (slot_of b id)) (cond t (Ended (place_of b id)) Nowhere))
+        ≡ row_at b (cond s (Some (Opened (slot_of b id))) (cond t (Some (Ended (place_of b id))) None))
     go true t = refl
     go false true = refl
     go false false = refl
 
 -- a place that it gives is in its book
-opened_by : (s t : Bool) (j i k : ℕ) → cond s (Opened j) (cond t (Ended i) Nowhere) ≡ Opened k → (s ≡ true) × (j ≡ k)
+opened_by : (s t : Bool) (j i k : ℕ) → cond s (Some (Opened j)) (cond t (Some (Ended i)) None) ≡ Some (Opened k) → (s ≡ true) × (j ≡ k)
 opened_by true t j i k e = (refl, cc)
-opened_by false true j i k e = let f : ◌≡◌ {A = ℕ} 0 1 = cc in absurd (omega arith)
-opened_by false false j i k e = let f : ◌≡◌ {A = ℕ} 0 1 = cc in absurd (omega arith)
+opened_by false true j i k e = absurd (cc)
+opened_by false false j i k e = absurd (cc)
 
-pub opened_at : (b : Book) (id : List ℕ) (k : ℕ) → where_is b id ≡ Opened k → (k ≡ slot_of b id) × (k < b.head.slots)
+pub opened_at : (b : Book) (id : List ℕ) (k : ℕ) → where_is b id ≡ Some (Opened k) → (k ≡ slot_of b id) × (k < b.head.slots)
 opened_at b id k e =
     let f = opened_by (ltb (slot_of b id) b.head.slots) (ltb (place_of b id) b.head.finished) (slot_of b id) (place_of b id) k e in
     let h : slot_of b id < b.head.slots = ltb-true _ _ f.0 in
     (omega (arith, f.1), omega (arith, f.1))
 
-ended_by : (s t : Bool) (j i k : ℕ) → cond s (Opened j) (cond t (Ended i) Nowhere) ≡ Ended k → (t ≡ true) × (i ≡ k)
-ended_by true t j i k e = let f : ◌≡◌ {A = ℕ} 0 1 = cc in absurd (omega arith)
+ended_by : (s t : Bool) (j i k : ℕ) → cond s (Some (Opened j)) (cond t (Some (Ended i)) None) ≡ Some (Ended k) → (t ≡ true) × (i ≡ k)
+ended_by true t j i k e = absurd (cc)
 ended_by false true j i k e = (refl, cc)
-ended_by false false j i k e = let f : ◌≡◌ {A = ℕ} 0 1 = cc in absurd (omega arith)
+ended_by false false j i k e = absurd (cc)
 
-pub ended_at_lem : (b : Book) (id : List ℕ) (k : ℕ) → where_is b id ≡ Ended k → k < b.head.finished
+pub ended_at_lem : (b : Book) (id : List ℕ) (k : ℕ) → where_is b id ≡ Some (Ended k) → k < b.head.finished
 ended_at_lem b id k e =
     let f = ended_by (ltb (slot_of b id) b.head.slots) (ltb (place_of b id) b.head.finished) (slot_of b id) (place_of b id) k e in
     let h : place_of b id < b.head.finished = ltb-true _ _ f.0 in

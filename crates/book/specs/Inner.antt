@@ -1,22 +1,22 @@
 -- What the inner functions of the calls go by, and what they ask for; no public promise cites these.
-use Rattle.std.specs.Prelude.{ℕ, ◌+◌, ◌*◌, ◌≤◌, ◌<◌, ◌≡◌, Bool, true, cond, List, [], length, get_or}
-use Rattle.std.proofs.Math.Option.{Option, none, some}
-use Rattle.octets.specs.Parts.{same}
+use Rattle.std.specs.Prelude.{ℕ, ◌+◌, ◌*◌, ◌≤◌, ◌<◌, ◌≡◌, Bool, true, cond, List, length, ltb, Option, Some, None}
+use Rattle.std.proofs.Math.Option as maybe
+use Rattle.std.proofs.Math.Option.{none, some}
 use Rattle.account.specs.declared.Head.{Head}
 use Rattle.account.specs.Position.{Room, InRange}
 use Rattle.account.specs.Head.{account_at, Named}
-use Rattle.record.specs.Layout.{Row, bytes, num, payee_field, number_field}
+use Rattle.record.specs.Layout.{Row, num, payee_field}
 use Rattle.record.specs.Rows.{row}
 use Rattle.rules.specs.declared.Answer.{Answer}
-use Rattle.rules.specs.declared.Answer.TheVariants.{OtherContent, NotThePayee, Resend}
+use Rattle.rules.specs.declared.Answer.TheVariants.{OtherContent, Resend}
 use Rattle.rules.specs.Answers.{is_done}
-use Rattle.rules.specs.View.{Transfer}
+use Rattle.rules.specs.View.{Transfer, reserved}
 use Rattle.rules.specs.Rules.{payee_rules, number_or}
-use Rattle.shape.specs.Reading.{Book, names_of, held_transfer}
+use Rattle.shape.specs.Reading.{Book, transfer_of, held_transfer}
 use Rattle.book.specs.declared.Decision.{Decision}
 use Rattle.book.specs.declared.Place.{Place}
-use Rattle.book.specs.declared.Place.TheVariants.{Opened, Ended, Nowhere}
-use Rattle.book.specs.Step.{Outcome, slot_of}
+use Rattle.book.specs.declared.Place.TheVariants.{Opened, Ended}
+use Rattle.book.specs.Step.{Outcome, slot_of, record_in}
 use Rattle.book.specs.Ending.{amount_in, ended_at}
 
 -- an answer that changes nothing
@@ -26,12 +26,9 @@ kept b a mark = record { answer = a; mark = mark; left = b }
 abbrev pub resent : Bool → Answer
 resent same_content = cond same_content Resend OtherContent
 
-abbrev pub judged_by : Head → Row → List ℕ → Answer → ℕ → Decision
-judged_by h r sender by_state slot = record {
-  answer = cond (same (get_or (names_of h) (num payee_field r) []) sender) by_state NotThePayee;
-  mark = num number_field r;
-  slot = slot;
-}
+-- the first place of n, where there is one
+abbrev pub first_of : ℕ → ℕ → Option ℕ
+first_of k n = cond (ltb k n) (Some k) None
 
 -- the books have the records that the head counts
 pub record InBooks (b : Book) : Type 0 where
@@ -44,10 +41,10 @@ pub record PayeeNamed (h : Head) (r : Row) : Type 0 where
   pub named : Named h
   pub payee : num payee_field r < h.count
 
--- such a record in a book
-pub record PayeeKnown (h : Head) (book : List ℕ) (k : ℕ) : Type 0 where
-  pub inside : k * 160 + 160 ≤ length book
-  pub payee : PayeeNamed h (row book k)
+-- a place that lies in its book
+abbrev pub Inside : List ℕ → List ℕ → Place → Type 0
+Inside opened ended (Opened k) = k * 160 + 160 ≤ length opened
+Inside opened ended (Ended k) = k * 160 + 160 ≤ length ended
 
 -- a record whose amount can be taken from an account's position
 pub record CanSettle (h : Head) (i : ℕ) (r : Row) : Type 0 where
@@ -63,10 +60,10 @@ pub record CanEnd (b : Book) (k i : ℕ) : Type 0 where
   pub place : b.head.finished * 160 + 160 ≤ length b.ended
   pub settles : CanSettle b.head i (row b.opened k)
 
--- a decision that can be carried out: where it is 0 the record of its slot can end, for the party that this byte of the record names
-pub record CanCarryOut (b : Book) (d : Decision) (party : ℕ) : Type 0 where
-  pub byte : party < 160
-  pub ends : is_done d.answer ≡ true → CanEnd b d.slot (num (bytes party 1) (row b.opened d.slot))
+-- a decision that can be carried out: where it is 0 the record of its slot can end, for the account that it names
+pub record CanCarryOut (names : Row → ℕ → Type 0) (b : Book) (d : Decision) : Type 0 where
+  pub slot : is_done d.answer ≡ true → d.slot * 160 + 160 ≤ length b.opened
+  pub ends : is_done d.answer ≡ true → (i : ℕ) → names (row b.opened d.slot) i → CanEnd b d.slot i
 
 abbrev pub carried_out : Book → Decision → (Row → ℕ) → (Row → Row) → Outcome
 carried_out b d party ending = record {
@@ -75,11 +72,20 @@ carried_out b d party ending = record {
   left = cond (is_done d.answer) (ended_at b d.slot party ending) b;
 }
 
+-- what it leaves, where the account that is named of a record is this number of it
+abbrev pub CarriesOut : (Row → ℕ → Type 0) → Book → Decision → (Row → Row) → Outcome → Type 0
+CarriesOut names b d ending out =
+    (number : Row → ℕ) → ((r : Row) (i : ℕ) → names r i → i ≡ number r) → out ≡ carried_out b d number ending
+
 -- the record at a place
-abbrev pub row_at : Book → Place → Option Row
-row_at b (Opened k) = some (row b.opened k)
-row_at b (Ended k) = some (row b.ended k)
-row_at b Nowhere = none
+abbrev pub row_at : Book → Option Place → maybe.Option Row
+row_at b (Some p) = some (record_in b.opened b.ended p)
+row_at b None = none
+
+-- what the code answers on a record is the answer by the state of its transfer, and 0 is one on a RESERVED transfer only
+pub record ByState (answers : Row → Answer → Type 0) (names : List (List ℕ)) (by_state : Transfer → Answer) : Type 0 where
+  pub answer : (r : Row) (a : Answer) → answers r a → a ≡ by_state (transfer_of names r)
+  pub ends : (t : Transfer) → is_done (by_state t) ≡ true → t.state ≡ reserved
 
 -- what a fulfil or an abort is answered on the record of an id, and the slot where the answer is 0
 pub record Decided (b : Book) (sender id : List ℕ) (by_state : Transfer → Answer) (d : Decision) : Type 0 where

@@ -1,8 +1,9 @@
 -- What a call leaves: its answer and mark by the rules, and the book, changed only where the answer is 0.
-use Rattle.std.specs.Prelude.{ℕ, cond, List, ltb}
+use Rattle.std.specs.Prelude.{ℕ, cond, List, ltb, Option, Some, None}
 use Rattle.octets.specs.Lists.{index}
 use Rattle.account.specs.declared.Head.{Head}
-use Rattle.record.specs.Rows.{holds}
+use Rattle.record.specs.Layout.{Row}
+use Rattle.record.specs.Rows.{row, holds}
 use Rattle.rules.specs.declared.Answer.{Answer}
 use Rattle.rules.specs.Answers.{is_done}
 use Rattle.rules.specs.Calls.{Call}
@@ -11,7 +12,7 @@ use Rattle.shape.specs.Reading.{Book, open_rows, ended_rows}
 use Rattle.shape.specs.Seen.{seen}
 use Rattle.book.specs.declared.Answered.{Answered}
 use Rattle.book.specs.declared.Place.{Place}
-use Rattle.book.specs.declared.Place.TheVariants.{Opened, Ended, Nowhere}
+use Rattle.book.specs.declared.Place.TheVariants.{Opened, Ended}
 
 pub record Outcome : Type 0 where
   pub answer : Answer
@@ -42,7 +43,12 @@ abbrev pub place_of : Book → List ℕ → ℕ
 place_of b id = index (holds id) (ended_rows b)
 
 -- "in whichever of the two books holds it": "the open book's lowest slot counts first, then the lowest finished place"
-abbrev pub where_is : Book → List ℕ → Place
+abbrev pub where_is : Book → List ℕ → Option Place
 where_is b id =
-    cond (ltb (slot_of b id) b.head.slots) (Opened (slot_of b id))
-    (cond (ltb (place_of b id) b.head.finished) (Ended (place_of b id)) Nowhere)
+    cond (ltb (slot_of b id) b.head.slots) (Some (Opened (slot_of b id)))
+    (cond (ltb (place_of b id) b.head.finished) (Some (Ended (place_of b id))) None)
+
+-- "that record's own 160 bytes, in whichever of the two books holds it"
+abbrev pub record_in : List ℕ → List ℕ → Place → Row
+record_in opened ended (Opened k) = row opened k
+record_in opened ended (Ended k) = row ended k

@@ -1,23 +1,27 @@
 // What the calls share: an answer with the head that it leaves, the record of an id, the payee's own word, the end of a record.
 #![tactic(auto)]
 
-ghost use Rattle.std.specs.Prelude.{◌≡◌, ◌+◌, ◌*◌, ◌≤◌, ◌<◌, length, get_or, []};
+ghost use Rattle.std.specs.Prelude.{◌≡◌, ◌*◌, ◌≤◌, length, get_or, []};
+ghost use Rattle.std.specs.Fn.{FnReturnsAt};
 ghost use Rattle.std.proofs.lemmas.List.Edits.{sets};
+ghost use Rattle.octets.specs.Lists.{index};
 ghost use Rattle.octets.specs.Parts.{same, zeros};
-ghost use Rattle.record.specs.Layout.{bytes, num, ended_row, payee_field, number_field};
-ghost use Rattle.record.specs.Rows.{row};
-ghost use Rattle.rules.specs.Calls.{fits as fits_form};
+ghost use Rattle.record.specs.Layout.{num, ended_row, payee_field};
+ghost use Rattle.record.specs.Rows.{rows, row, holds};
+ghost use Rattle.rules.specs.declared.Answer.{Answer};
+ghost use Rattle.rules.specs.View.{Transfer};
 ghost use Rattle.shape.specs.Reading.{names_of};
-ghost use Rattle.book.specs.Step.{book_of, outcome, where_is};
-ghost use Rattle.book.specs.Ending.{settled as settled_head, amount_in};
-ghost use Rattle.book.specs.Inner.{resent, judged_by, InBooks, PayeeNamed, CanSettle, CanEnd, CanCarryOut, carried_out};
+ghost use Rattle.shape.specs.Sound.{Sound};
+ghost use Rattle.book.specs.Step.{book_of, outcome, where_is, record_in};
+ghost use Rattle.book.specs.Ending.{settled as settled_head};
+ghost use Rattle.book.specs.Inner.{resent, first_of, InBooks, Inside, PayeeNamed, ByState, Decided};
+ghost use Rattle.book.specs.Inner.{CanSettle, CanEnd, CanCarryOut, CarriesOut};
 
 use account::Head;
-use form::Verdict;
-use record::Ending;
+use record::{Ending, Row};
 use rules::Answer;
 
-// What a call hands back beside the bytes that it was lent.
+/// What a call hands back beside the bytes that it was lent.
 #[derive(Clone, Copy)]
 pub struct Answered {
     pub answer: Answer,
@@ -25,7 +29,8 @@ pub struct Answered {
     pub head: Head,
 }
 
-// What is decided with the books as they are; the slot counts where the answer is 0.
+/// What is decided with the books as they are; the slot counts where the answer is 0.
+// No enum of done and refused: a rule has 0 among its answers, so each would be taken apart here and put together again in `Answered`.
 #[derive(Clone, Copy)]
 pub struct Decision {
     pub answer: Answer,
@@ -33,12 +38,11 @@ pub struct Decision {
     pub slot: usize,
 }
 
-// Where the record of an id is: a slot of the open book, a place of the finished book, or in neither.
-#[derive(Clone, Copy)]
+/// Where the record of an id is: a slot of the open book, or a place of the finished book.
+#[derive(Clone, Copy, Debug, PartialEq, Eq)]
 pub enum Place {
     Opened(usize),
     Ended(usize),
-    Nowhere,
 }
 
 pub fn reply(h: Head, answer: Answer, mark: u32) -> Answered
@@ -57,82 +61,98 @@ pub fn decided(answer: Answer, mark: u32, slot: usize) -> Decision
     Decision { answer, mark, slot }
 }
 
-// Whether a text is of its form.
-pub fn fits(v: Verdict) -> bool
-    ensures { result ≡ fits_form v }
-{
-    match v {
-        Verdict::Fits => true,
-        Verdict::Stops(_) => false,
-    }
-}
-
-// The same content again, or another.
+/// The same content again, or another.
 pub fn resend(same: bool) -> Answer
     ensures { result ≡ resent same }
 {
     if same {
-        return Answer::Resend;
+        Answer::Resend
+    } else {
+        Answer::OtherContent
     }
-    Answer::OtherContent
 }
 
-// The record of an id: the open book's lowest slot counts first, then the lowest finished place.
-pub fn find(h: Head, opened: &[u8], ended: &[u8], id: [u8; 16]) -> Place
+// The first of n records of a book that has an id.
+fn first(book: &[u8], n: u16, id: [u8; 16]) -> Option<usize>
+    requires { n * 160 ≤ length book.now }
+    ensures { result ≡ first_of (index (holds id) (rows n book.now)) n }
+{
+    record::find(&record::records(book)[..usize::from(n)], id)
+}
+
+// The head and the two books go as three parameters, no struct: C lends a book that is written to, and each call would make a second one of
+// the same three for what only reads.
+/// The record of an id: the open book's lowest slot counts first, then the lowest finished place.
+pub fn find(h: Head, opened: &[u8], ended: &[u8], id: [u8; 16]) -> Option<Place>
     requires { InBooks (book_of h opened.now ended.now) }
     ensures { result ≡ where_is (book_of h opened.now ended.now) id }
 {
-    let slots = h.slots as usize;
-    let slot = record::find(opened, slots, id);
-    if slot < slots {
-        return Place::Opened(slot);
+    first(opened, h.slots, id)
+        .map(Place::Opened)
+        .or_else(|| first(ended, h.finished, id).map(Place::Ended))
+}
+
+/// The record's own bytes, in whichever book holds it.
+pub fn record_at<'a>(opened: &'a [u8], ended: &'a [u8], place: Place) -> &'a Row
+    requires { Inside opened.now ended.now place }
+    ensures { result.now ≡ record_in opened.now ended.now place }
+{
+    match place {
+        Place::Opened(k) => &record::records(opened)[k],
+        Place::Ended(k) => &record::records(ended)[k],
     }
-    let finished = h.finished as usize;
-    let place = record::find(ended, finished, id);
-    if place < finished {
-        return Place::Ended(place);
-    }
-    Place::Nowhere
 }
 
 // Whether the sender is the payee of a record.
-fn is_payee(h: Head, part: &[u8], sender: &[u8]) -> bool
-    requires { PayeeNamed h part.now }
-    ensures { result ≡ same (get_or (names_of h) (num payee_field part.now) []) sender.now }
+fn is_payee(h: Head, row: &Row, sender: &[u8]) -> bool
+    requires { PayeeNamed h row.now }
+    ensures { result ≡ same (get_or (names_of h) (num payee_field row.now) []) sender.now }
 {
-    let payee = record::payee_of(part);
-    let a = h.accounts[payee];
-    account::is_named(a, sender)
+    account::is_named(h.accounts[record::payee_of(row)], sender)
 }
 
-// A record of which only the payee may say more: 12, or the answer by its state.
-pub fn judged(h: Head, part: &[u8], sender: &[u8], answer: Answer, slot: usize) -> Decision
-    requires { PayeeNamed h part.now }
-    ensures { result ≡ judged_by h part.now sender.now answer slot }
+/// What is decided on the record of an id, of which only the payee may say more: 11, 12, or the answer by its state.
+pub fn decide<R: Fn(&Row) -> Answer>(
+    h: Head,
+    opened: &[u8],
+    ended: &[u8],
+    sender: &[u8],
+    id: [u8; 16],
+    by_state: R,
+) -> Decision
+    requires sound { Sound (book_of h opened.now ended.now) }
+    requires rule { R.IsAlwaysCallable by_state }
+    ensures { (rule : Transfer → Answer) → ByState (FnReturnsAt R.Fn by_state) (names_of h) rule
+        → Decided (book_of h opened.now ended.now) sender.now id rule result }
 {
-    let mark = record::number_of(part);
-    if is_payee(h, part, sender) {
-        return decided(answer, mark, slot);
+    let Some(place) = find(h, opened, ended, id) else {
+        return decided(Answer::UnknownId, 0, 0);
+    };
+    let row = record_at(opened, ended, place);
+    let mark = record::number_of(row);
+    if !is_payee(h, row, sender) {
+        return decided(Answer::NotThePayee, mark, 0);
     }
-    decided(Answer::NotThePayee, mark, slot)
+    let slot = match place {
+        Place::Opened(slot) => slot,
+        Place::Ended(_) => 0,
+    };
+    decided(by_state(row), mark, slot)
 }
 
 // The head when a record ends: the party's position falls by the record's amount, and one record more is finished.
-fn settle(h: Head, part: &[u8], party: usize) -> Head
-    requires { CanSettle h party part.now }
-    ensures { result ≡ settled_head h party part.now }
+fn settle(h: Head, row: &Row, party: usize) -> Head
+    requires { CanSettle h party row.now }
+    ensures { result ≡ settled_head h party row.now }
 {
-    let amount = record::amount_of(part);
-    let a = h.accounts[party];
-    let before = a.position;
-    let position = account::lower(before, amount);
+    let position = h.accounts[party].position.lowered(record::amount_of(row));
     let mut next = account::with_position(h, party, position);
     next.finished = h.finished + 1;
     next
 }
 
-// The record of a slot ends: the position of the party, an account number, falls, and the record moves to the next place of the
-// finished book.
+/// The record of a slot ends: the position of the party, an account number, falls, and the record moves to the next place of the
+/// finished book.
 pub fn end_record(
     h: Head,
     opened: &mut [u8],
@@ -144,38 +164,32 @@ pub fn end_record(
     requires { CanEnd (book_of h opened.old ended.old) slot party }
     ensures { (result ≡ settled_head h party (row opened.old slot))
         × (opened.new ≡ sets opened.old (slot * 160) (zeros 160))
-        × (ended.new ≡ sets ended.old (h.finished * 160) (ended_row e.state e.by e.code e.fulfilment
-        (row opened.old slot))) }
+        × (ended.new ≡ sets ended.old (h.finished * 160)
+        (ended_row e.state e.by e.code e.fulfilment (row opened.old slot))) }
 {
-    let at = slot * 160;
-    let end = at + 160;
-    let next = settle(h, &opened[at..end], party);
-    let place = h.finished as usize;
-    record::move_ended(opened, ended, slot, place, e);
+    let next = settle(h, &record::records(opened)[slot], party);
+    record::move_ended(opened, ended, slot, usize::from(h.finished), e);
     next
 }
 
-// What is decided is carried out: where it is 0 the record of the slot ends, and the position of the party falls whose account number
-// is that byte of the record.
-pub fn carry_out(
+/// What is decided is carried out: where it is 0 the record of the slot ends, and the position of the party that it names falls.
+pub fn carry_out<P: Fn(&Row) -> usize>(
     h: Head,
     opened: &mut [u8],
     ended: &mut [u8],
     d: Decision,
-    party: usize,
+    party: P,
     e: Ending,
 ) -> Answered
-    requires { CanCarryOut (book_of h opened.old ended.old) d party }
-    ensures { outcome result opened.new ended.new ≡ carried_out (book_of h opened.old ended.old) d
-        (num (bytes party 1)) (ended_row e.state e.by e.code e.fulfilment) }
+    requires number { P.IsAlwaysCallable party }
+    requires ends { CanCarryOut (FnReturnsAt P.Fn party) (book_of h opened.old ended.old) d }
+    ensures { CarriesOut (FnReturnsAt P.Fn party) (book_of h opened.old ended.old) d
+        (ended_row e.state e.by e.code e.fulfilment) (outcome result opened.new ended.new) }
 {
-    let answer = d.answer;
-    let mark = d.mark;
-    if rules::is_done(answer) {
-        let at = d.slot * 160;
-        let account = opened[at + party] as usize;
-        let next = end_record(h, opened, ended, d.slot, account, e);
-        return reply(next, answer, mark);
+    if !d.answer.is_done() {
+        return reply(h, d.answer, d.mark);
     }
-    reply(h, answer, mark)
+    let account = party(&record::records(opened)[d.slot]);
+    let next = end_record(h, opened, ended, d.slot, account, e);
+    reply(next, d.answer, d.mark)
 }

@@ -2,11 +2,12 @@
 use mathlib.Core.Path.{◌≡◌, refl, sym, ap, subst, subst⁻¹, subst₂, ◌∙◌}
 use mathlib.Core.Bool.{Bool, true, false, cond, not, ◌&&◌}
 use Prim.Native.Nat.{ℕ, zero, suc, suc-le-suc, ◌+◌, ◌-◌, ◌*◌, ◌/◌, ◌%◌, ◌≤◌, ◌<◌}
-use native.Mathlib.Nat.{le_refl, add-zero}
+use native.Mathlib.Nat.{le_refl}
 use native.Mathlib.Numerals.{add-one, add-one-le}
 use native.Mathlib.Omega.{arith}
 use native.Mathlib.Decide.{ℕ_discrete, dec_lt}
 use lib.Dec.{T, eqb, leb, leb→le}
+use mir.Val.{bool_byte}
 use borrow.Author.Tests.{eq-eqb, ne_eqb, leb-true, leb-false}
 use Rattle.octets.proofs.Computed.{both, both_left, both_right, below, below_at}
 use Rattle.datetime.specs.Calendar.{year_days, month_days, before, last_begun, year_of}
@@ -100,18 +101,18 @@ by_century c x h = ap (λ (n : ℕ). n + cond (not (eqb (c % 4) 0) && not (eqb x
               ]
         ]
 
-module _ (c x all : ℕ) (h : x ≤ 99) (e : all ≡ before_century c + (365 * x + (x + 3) / 4)) where
-  counts : (t : Bool) → (not (eqb (c % 4) 0) && not (eqb x 0)) ≡ t → before year_days (c * 100 + x) + cond t 1 0 ≡ all
-  counts t k = subst (λ (b : Bool). before year_days (c * 100 + x) + cond b 1 0 ≡ all) k (by_century c x h ∙ sym e)
+as_count : (t : Bool) → bool_byte t ≡ cond t 1 0
+as_count true = refl
+as_count false = refl
 
-  pub year_sooner : (not (eqb (c % 4) 0) && not (eqb x 0)) ≡ true → (1 ≤ all) × (all - 1 ≡ before year_days (c * 100 + x))
-  year_sooner k = one (before year_days (c * 100 + x)) (counts true k)
-    where
-      one : (b : ℕ) → b + 1 ≡ all → (1 ≤ all) × (all - 1 ≡ b)
-      one b g = (omega arith, omega arith)
-
-  pub year_then : (not (eqb (c % 4) 0) && not (eqb x 0)) ≡ false → all ≡ before year_days (c * 100 + x)
-  year_then k = sym (counts false k) ∙ add-zero (before year_days (c * 100 + x))
+pub year_begins : (c x all k : ℕ) → x ≤ 99 → all ≡ before_century c + (365 * x + (x + 3) / 4) →
+    k ≡ bool_byte (not (eqb (c % 4) 0) && not (eqb x 0)) → all - k ≡ before year_days (c * 100 + x)
+year_begins c x all k h e f =
+    less (before year_days (c * 100 + x))
+    (ap (λ (n : ℕ). before year_days (c * 100 + x) + n) (f ∙ as_count (not (eqb (c % 4) 0) && not (eqb x 0))) ∙ by_century c x h ∙ sym e)
+  where
+    less : (b : ℕ) → b + k ≡ all → all - k ≡ b
+    less b g = omega arith
 
 module _ (days : ℕ → ℕ) where
   -- what begins later has no fewer days before it

@@ -1,5 +1,5 @@
 -- The formulas by which the code counts years and months are the calendar's.
-use mathlib.Core.Path.{◌≡◌, refl, sym, ap, ap₂, subst, subst⁻¹, subst₂, ◌∙◌}
+use mathlib.Core.Path.{◌≡◌, refl, sym, ap, subst, subst⁻¹, subst₂, ◌∙◌}
 use mathlib.Core.Bool.{Bool, true, false, cond}
 use Prim.Native.Nat.{ℕ, suc, suc-le-suc, ◌+◌, ◌-◌, ◌*◌, ◌/◌, ◌%◌, ◌≤◌, ◌<◌}
 use native.Mathlib.Nat.{add-zero}
@@ -7,7 +7,7 @@ use native.Mathlib.Numerals.{add-one-le}
 use native.Mathlib.Omega.{arith}
 use native.Mathlib.Decide.{ℕ_discrete}
 use lib.Dec.{T, eqb, eqb→eq}
-use borrow.Author.Tests.{lt-ltb, le-ltb, eq-eqb, ne_eqb}
+use borrow.Author.Tests.{eq-eqb, ne_eqb}
 use Rattle.octets.proofs.Computed.{below, below_at}
 use Rattle.datetime.specs.Calendar.{leap, year_days, month_days, before, last_begun, year_of, day_of_year, month_of, day_of}
 use Rattle.datetime.specs.Plain.{month_length, even_day, before_century}
@@ -44,20 +44,6 @@ starts_late false = agree (λ m. even m - 2) (before (month_days false)) 3 10 tt
 pub at_most : (l : Bool) (m r : ℕ) → r ≡ cond l 1 2 → m ≤ 12 → even m - r ≤ 335
 at_most true m r e h = omega arith
 at_most false m r e h = omega arith
-
--- a day's place, evened
-module _ (l : Bool) (k r : ℕ) (e : r ≡ cond l 1 2) where
-  pub even_early : k < 61 - r → k ≡ even_day l k
-  even_early h = sym (ap (λ (b : Bool). cond b k (k + cond l 1 2)) (lt-ltb k (61 - cond l 1 2) (subst (λ (x : ℕ). k < 61 - x) e h)))
-
-  pub even_late : 61 - r ≤ k → k + r ≡ even_day l k
-  even_late h =
-      ap (λ (x : ℕ). k + x) e
-      ∙ sym (ap (λ (b : Bool). cond b k (k + cond l 1 2)) (le-ltb k (61 - cond l 1 2) (subst (λ (x : ℕ). 61 - x ≤ k) e h)))
-
-pub even_small : (l : Bool) (k r : ℕ) → r ≡ cond l 1 2 → k < cond l 366 365 → k + r < 367
-even_small true k r e h = omega arith
-even_small false k r e h = omega arith
 
 -- and the month of a day by the same count
 pub month_at : (l : Bool) (k : ℕ) → k < cond l 366 365 → (12 * even_day l k + 373) / 367 ≡ last_begun (month_days l) k 12
@@ -96,9 +82,6 @@ no_later n b ends z f k h e l g m = omega arith
 module _ (n : ℕ) (a : 365243 ≤ n) (b : n < 3652425) where
   abbrev hundred : ℕ
   hundred = 4 * n / 146097
-
-  pub century_small : hundred ≤ 99
-  century_small = omega arith
 
   pub century_began : before_century hundred ≤ n
   century_began = omega arith
@@ -232,12 +215,3 @@ module _ (n y b : ℕ) (small : n < 3652425) (ey : y ≡ year_of n) (eb : b ≡ 
 
     pub within : n - b < cond l 366 365
     within = subst₂ (λ (x : ℕ) (t : Bool). n - x < cond t 366 365) (sym begins) (sym kind) (place_small n small)
-
-    module _ (m d : ℕ) (em : m ≡ last_begun (month_days l) (n - b) 12)
-        (ed : d ≡ n - b - before (month_days l) (last_begun (month_days l) (n - b) 12) + 1) where
-      pub date_found : (y ≡ year_of n) × (m ≡ month_of n) × (d ≡ day_of n)
-      date_found = (
-        ey,
-        em ∙ ap₂ (λ (t : Bool) (x : ℕ). last_begun (month_days t) (n - x) 12) kind begins,
-        ed ∙ ap₂ (λ (t : Bool) (x : ℕ). n - x - before (month_days t) (last_begun (month_days t) (n - x) 12) + 1) kind begins,
-      )

@@ -4,6 +4,7 @@ pub mod Formulas
 pub mod Onward
 pub mod Listing
 pub mod Passed
+pub mod Steps
 pub mod Walk
 pub mod Texts
 pub mod Values

@@ -5,25 +5,25 @@ use mathlib.Core.Bool.{Bool, true, false, false≢true, not, cond, ◌&&◌}
 use mathlib.Core.List.{List, [], ◌∷◌}
 use Prim.Native.Nat.{ℕ, suc, ◌+◌, ◌*◌, ◌/◌, ◌≤◌, ◌<◌}
 use native.Mathlib.Omega.{arith}
-use native.Mathlib.Decide.{ℕ_discrete}
 use native.Mathlib.Nat.{add-zero}
 use lib.Dec.{T, eqb, ltb, leb, ltb→lt, leb→le}
 use lib.ListN.{get_or, drop}
 use lib.Seq.{drop-drop, get_or-drop}
-use borrow.Author.Tests.{eq-eqb, ne_eqb, le-leb}
+use borrow.Author.Tests.{le-leb}
 use Rattle.octets.specs.Bytes.{Bytes}
 use Rattle.octets.proofs.Computed.{both, both_left, both_right, implies, implied, below, below_at}
 use Rattle.octets.proofs.Lists.{byte-at}
 use Rattle.octets.proofs.Parts.{bytes_drop}
 use Rattle.octets.proofs.Tests.{is_false}
 use Rattle.form.specs.Regex.{Re, alive, nullable, deriv, judge_from}
-use Rattle.form.specs.declared.Verdict.{Verdict}
-use Rattle.form.specs.declared.Verdict.TheVariants.{Stops}
+use Rattle.std.specs.Prelude.{Result, Ok, Err}
+use Rattle.form.specs.declared.Stop.{Stop}
+use Rattle.form.specs.Verdict.{Verdict, stops_at}
 use Rattle.form.proofs.Same.{same, same-eq}
 use Rattle.form.proofs.Steps.{is_true}
 use Rattle.datetime.specs.Instant.{digit_of}
 use Rattle.datetime.specs.Plain.{is_digit, pair, pair_at, is}
-use Rattle.datetime.specs.Reach.{within, begins, pair_stop, pair_end, marked_end, past}
+use Rattle.datetime.specs.Reading.{and_then, within, begins, two_digits, marked}
 
 -- exactly the bytes of the rule go on, each to what is said to be next; neither the end nor 0, which is read past it, does
 abbrev steps_to : Re → Bool → Re → Bool
@@ -39,7 +39,7 @@ module _ (r : Re) (rule : ℕ → Bool) (next : ℕ → Re) (ok : T (goes_by r r
 
   -- the first byte of what is to come
   first : (l : List ℕ) → Bytes l → (i : ℕ) →
-      judge_from r i l ≡ cond (rule (get_or l 0 0)) (judge_from (next (get_or l 0 0)) (suc i) (drop 1 l)) (Stops i)
+      judge_from r i l ≡ cond (rule (get_or l 0 0)) (judge_from (next (get_or l 0 0)) (suc i) (drop 1 l)) (stops_at i)
   first [] b i =
       let e = is_false (nullable r) (both_left (not (nullable r)) (both (not (rule 0)) each) ok) in
       let z = is_false (rule 0) (both_left (not (rule 0)) each (both_right (not (nullable r)) (both (not (rule 0)) each) ok)) in
@@ -49,8 +49,8 @@ module _ (r : Re) (rule : ℕ → Bool) (next : ℕ → Re) (ok : T (goes_by r r
       (below_at 256 (λ x. steps_to (deriv x r) (rule x) (next x)) (both_right (not (rule 0)) each (both_right (not (nullable r)) (both
       (not (rule 0)) each) ok)) c b.0)
     where
-      go : (good : Bool) → T (steps_to (deriv c r) good (next c)) → cond (alive (deriv c r)) (judge_from (deriv c r) (suc i) cs) (Stops i) ≡
-          cond good (judge_from (next c) (suc i) cs) (Stops i)
+      go : (good : Bool) → T (steps_to (deriv c r) good (next c)) → cond (alive (deriv c r)) (judge_from (deriv c r) (suc i) cs) (stops_at i) ≡
+          cond good (judge_from (next c) (suc i) cs) (stops_at i)
       go true t =
           let e = is_true (alive (deriv c r)) (both_left (alive (deriv c r)) (same (deriv c r) (next c)) t) in
           let q = same-eq (deriv c r) (next c) (both_right (alive (deriv c r)) (same (deriv c r) (next c)) t) in
@@ -59,54 +59,22 @@ module _ (r : Re) (rule : ℕ → Bool) (next : ℕ → Re) (ok : T (goes_by r r
 
 -- the byte at a place of the text
 pub at_place : (r : Re) (rule : ℕ → Bool) (next : ℕ → Re) → T (goes_by r rule next) → (s : List ℕ) → Bytes s → (i : ℕ) →
-    judge_from r i (drop i s) ≡ cond (rule (get_or s i 0)) (judge_from (next (get_or s i 0)) (i + 1) (drop (i + 1) s)) (Stops i)
+    judge_from r i (drop i s) ≡ cond (rule (get_or s i 0)) (judge_from (next (get_or s i 0)) (i + 1) (drop (i + 1) s)) (stops_at i)
 at_place r rule next ok s b i =
     let c : get_or (drop i s) 0 0 ≡ get_or s i 0 = get_or-drop i s 0 0 ∙ ap (λ (k : ℕ). get_or s k 0) (add-zero i) in
     let n : suc i ≡ i + 1 = omega arith in
     first r rule next ok (drop i s) (bytes_drop i s b) i
-    ∙ (λ j. cond (rule (c j)) (judge_from (next (c j)) (n j) (drop-drop 1 i s j)) (Stops i))
-
--- from r at the place i the text is judged to the place e: to j, from where q is left, or no further
-pub record Onward (s : List ℕ) (r : Re) (i e : ℕ) (q : Re) (j : ℕ) : Type 0 where
-  pub most : e ≤ j
-  pub goes : e ≡ j → judge_from r i (drop i s) ≡ judge_from q j (drop j s)
-  pub stops : (e ≡ j → ⊥) → judge_from r i (drop i s) ≡ Stops e
-
-passed : {s : List ℕ} {r q : Re} {i j : ℕ} → judge_from r i (drop i s) ≡ judge_from q j (drop j s) → Onward s r i j q j
-passed {j = j} e = record { most = omega arith; goes = λ f. e; stops = λ n. absurd (n refl) }
-
-stopped : {s : List ℕ} {r q : Re} {i j : ℕ} (e : ℕ) → e < j → judge_from r i (drop i s) ≡ Stops e → Onward s r i e q j
-stopped e h f = record { most = omega arith; goes = λ g. absurd (omega arith); stops = λ n. f }
+    ∙ (λ j. cond (rule (c j)) (judge_from (next (c j)) (n j) (drop-drop 1 i s j)) (stops_at i))
 
 -- one part and then another
-pub then : {s : List ℕ} {r q p : Re} {i e j f k : ℕ} → j ≤ k → Onward s r i e q j → (e ≡ j → Onward s q j f p k) →
-    Onward s r i (past j e f) p k
-then {s} {r} {q} {p} {i} {e} {j} {f} {k} h a b = elim (ℕ_discrete e j) [
-  | yes t ↦ subst⁻¹ (λ (x : Bool). Onward s r i (cond x f e) p k) (eq-eqb e j t) (record {
-    most = (b t).most;
-    goes = λ g. a.goes t ∙ (b t).goes g;
-    stops = λ n. a.goes t ∙ (b t).stops n;
-  })
-  | no t ↦ subst⁻¹ (λ (x : Bool). Onward s r i (cond x f e) p k) (ne_eqb e j t) (stopped e (omega (arith, a.most)) (a.stops t))
-]
+pub on : {A B : Type 0} (v : Result A Stop) (f : A → Result B Stop) (g : A → Verdict) (h : B → Verdict) →
+    ((a : A) → v ≡ Ok a → g a ≡ and_then (f a) h) → and_then v g ≡ and_then (and_then v f) h
+on (Ok a) f g h e = e a refl
+on (Err x) f g h e = refl
 
--- the verdict where a part is the last, or something else judges the rest
-pub finish : {s : List ℕ} {r q : Re} {i e j : ℕ} {v : Verdict} → Onward s r i e q j → (e ≡ j → v ≡ judge_from q j (drop j s)) →
-    cond (eqb e j) v (Stops e) ≡ judge_from r i (drop i s)
-finish {e = e} {j = j} a f = elim (ℕ_discrete e j) [
-  | yes t ↦ rw (eq-eqb e j t) (f t ∙ sym (a.goes t))
-  | no t ↦ rw (ne_eqb e j t) (sym (a.stops t))
-]
-
--- a part of one byte
-pub one : (r : Re) (rule : ℕ → Bool) (q : Re) → T (goes_by r rule (λ c. q)) → (s : List ℕ) → Bytes s → (i : ℕ) →
-    Onward s r i (cond (rule (get_or s i 0)) (i + 1) i) q (i + 1)
-one r rule q ok s b i = go (rule (get_or s i 0)) (at_place r rule (λ c. q) ok s b i)
-  where
-    go : (t : Bool) → judge_from r i (drop i s) ≡ cond t (judge_from q (i + 1) (drop (i + 1) s)) (Stops i) → Onward s r i (cond t (i + 1) i) q
-        (i + 1)
-    go true e = passed e
-    go false e = stopped i (omega arith) e
+pub last_on : {A B : Type 0} (v : Result A Stop) (f : A → B) (w : Verdict) → and_then v (λ a. w) ≡ and_then (and_then v (λ a. Ok (f a))) (λ b. w)
+last_on (Ok a) f w = refl
+last_on (Err x) f w = refl
 
 -- a row of two tests
 pub hold_both : (a b : Bool) → T (a && b) → T a × T b
@@ -165,30 +133,31 @@ module _ (r : Re) (least most : ℕ) (next : ℕ → Re) (ok : T (pair_goes r le
   abbrev onward : Verdict
   onward = judge_from (next (pair_at s i)) (i + 2) (drop (i + 2) s)
 
-  first-digit : judge_from r i (drop i s) ≡ cond (begins least most tens) (judge_from (deriv tens r) (i + 1) (drop (i + 1) s)) (Stops i)
+  first-digit : judge_from r i (drop i s) ≡ cond (begins least most tens) (judge_from (deriv tens r) (i + 1) (drop (i + 1) s)) (stops_at i)
   first-digit =
       at_place r (begins least most) (λ a. deriv a r) (both_left tens_go all_go (both_right (ltb most 100) (both tens_go all_go) ok)) s b i
 
   second_digit : begins least most tens ≡ true → judge_from (deriv tens r) (i + 1) (drop (i + 1) s) ≡ cond
-      (within least most (pair_at s i)) onward (Stops (i + 1))
+      (within least most (pair_at s i)) onward (stops_at (i + 1))
   second_digit e =
       let all = both_right tens_go all_go (both_right (ltb most 100) (both tens_go all_go) ok) in
       let t = below_at 256 (λ a. implies (begins least most a) (ones_go r least most next a)) all tens (byte-at s b i) in
       let n : i + 1 + 1 ≡ i + 2 = omega arith in
       subst (λ (k : ℕ). judge_from (deriv tens r) (i + 1) (drop (i + 1) s) ≡ cond (within least most (pair_at s i))
-      (judge_from (next (pair_at s i)) k (drop k s)) (Stops (i + 1))) n
+      (judge_from (next (pair_at s i)) k (drop k s)) (stops_at (i + 1))) n
       (at_place (deriv tens r) (λ c. within least most (pair tens c)) (λ c. next (pair tens c))
       (implied (begins least most tens) (ones_go r least most next tens) t (subst⁻¹ T e tt)) s b (i + 1))
 
-  pub two : Onward s r i (pair_end s i least most) (next (pair_at s i)) (i + 2)
-  unfolding pair_end
+  pub two : judge_from r i (drop i s) ≡ and_then (two_digits s i least most) (λ v. judge_from (next v) (i + 2) (drop (i + 2) s))
+  unfolding two_digits
   two = go (begins least most tens) (within least most (pair_at s i)) refl refl
     where
-      go : (t w : Bool) → begins least most tens ≡ t → within least most (pair_at s i) ≡ w → Onward s r i (cond w (i + 2) (cond t (i + 1) i))
-          (next (pair_at s i)) (i + 2)
-      go true true e f = passed (first-digit ∙ rw e (second_digit e ∙ rw f refl))
-      go true false e f = stopped (i + 1) (omega arith) (first-digit ∙ rw e (second_digit e ∙ rw f refl))
-      go false false e f = stopped i (omega arith) (first-digit ∙ rw e refl)
+      go : (t w : Bool) → begins least most tens ≡ t → within least most (pair_at s i) ≡ w →
+          judge_from r i (drop i s) ≡ and_then (cond w (Ok (pair_at s i)) (stops_at (cond t (i + 1) i))) (λ v. judge_from (next v) (i + 2)
+          (drop (i + 2) s))
+      go true true e f = first-digit ∙ rw e (second_digit e ∙ rw f refl)
+      go true false e f = first-digit ∙ rw e (second_digit e ∙ rw f refl)
+      go false false e f = first-digit ∙ rw e refl
       go false true e f =
           absurd (false≢true (sym e ∙ begun least most tens (get_or s (i + 1) 0) (ltb→lt most 100 (both_left (ltb most 100)
           (both tens_go all_go) ok)) f))
@@ -197,30 +166,20 @@ module _ (r : Re) (least most : ℕ) (next : ℕ → Re) (ok : T (pair_goes r le
 abbrev pub marked_goes : Re → ℕ → ℕ → ℕ → (ℕ → Re) → Bool
 marked_goes r c least most next = both (goes_by r (λ x. eqb x c) (λ x. deriv c r)) (pair_goes (deriv c r) least most next)
 
-led : {s : List ℕ} {r q p : Re} {i j e k : ℕ} → judge_from r i (drop i s) ≡ judge_from q j (drop j s) → Onward s q j e p k →
-    Onward s r i e p k
-led e a = record { most = a.most; goes = λ g. e ∙ a.goes g; stops = λ n. e ∙ a.stops n }
-
 module _ (r : Re) (c least most : ℕ) (next : ℕ → Re) (ok : T (marked_goes r c least most next)) (s : List ℕ) (b : Bytes s) (i : ℕ) where
   abbrev mark_goes : Bool
   mark_goes = goes_by r (λ x. eqb x c) (λ x. deriv c r)
 
-  abbrev mark_next : Re
-  mark_next = next (pair_at s (i + 1))
-
-  pub marked : Onward s r i (marked_end s i c least most) mark_next (i + 3)
-  unfolding marked_end pair_end
-  marked =
+  pub marked_on : judge_from r i (drop i s) ≡ and_then (marked s i c least most) (λ v. judge_from (next v) (i + 3) (drop (i + 3) s))
+  unfolding marked
+  marked_on =
       go (is s i c) (at_place r (λ x. eqb x c) (λ x. deriv c r) (both_left mark_goes (pair_goes (deriv c r) least most next) ok) s b i)
     where
-      digits : Onward s (deriv c r) (i + 1) (pair_end s (i + 1) least most) mark_next (i + 1 + 2)
-      digits = two (deriv c r) least most next (both_right mark_goes (pair_goes (deriv c r) least most next) ok) s b (i + 1)
-
-      go : (m : Bool) → judge_from r i (drop i s) ≡ cond m (judge_from (deriv c r) (i + 1) (drop (i + 1) s)) (Stops i) →
-          Onward s r i (cond (m && within least most (pair_at s (i + 1))) (i + 3) (cond m (pair_stop s (i + 1) least most) i)) mark_next
-          (i + 3)
+      go : (m : Bool) → judge_from r i (drop i s) ≡ cond m (judge_from (deriv c r) (i + 1) (drop (i + 1) s)) (stops_at i) →
+          judge_from r i (drop i s) ≡ and_then (cond m (two_digits s (i + 1) least most) (stops_at i)) (λ v. judge_from (next v) (i + 3)
+          (drop (i + 3) s))
       go true e =
           let n : i + 1 + 2 ≡ i + 3 = omega arith in
-          subst (λ (k : ℕ). Onward s r i (cond (within least most (pair_at s (i + 1))) k (pair_stop s (i + 1) least most)) mark_next k) n
-          (led e digits)
-      go false e = stopped i (omega arith) e
+          e ∙ two (deriv c r) least most next (both_right mark_goes (pair_goes (deriv c r) least most next) ok) s b (i + 1)
+          ∙ ap (λ (k : ℕ). and_then (two_digits s (i + 1) least most) (λ v. judge_from (next v) k (drop k s))) n
+      go false e = e

@@ -2,6 +2,7 @@
 use mathlib.Core.Path.{◌≡◌, refl, sym, ap, subst, subst⁻¹, ◌∙◌}
 use mathlib.Core.Bool.{true}
 use mathlib.Core.List.{[], ◌∷◌}
+use Rattle.std.specs.Prelude.{Ok}
 use Prim.Native.Nat.{ℕ, suc, suc-le-suc, ◌+◌, ◌-◌, ◌*◌, ◌/◌, ◌%◌, ◌≤◌, ◌<◌}
 use Prim.Native.Char.{code}
 use native.Mathlib.Numerals.{add-one}
@@ -10,10 +11,9 @@ use borrow.Author.Tests.{eqb-false}
 use lib.IntN.{ℤ, sub_ℕ}
 use Rattle.form.specs.Regex.{judge}
 use Rattle.form.specs.Listings.{date_time_form}
-use Rattle.form.specs.declared.Verdict.TheVariants.{Fits}
+use Rattle.form.specs.Verdict.{of_form}
 use Rattle.datetime.specs.Calendar.{leap, year_days, month_days, before, day_number, year_of, month_of, day_of}
 use Rattle.datetime.specs.Instant.{Civil, time_of, civil_on, text_at, date_time_text, instant_of, read_date_time, in_years}
-use Rattle.datetime.specs.declared.InstantRead.TheVariants.{Value}
 use Rattle.datetime.proofs.Days.{before-year, before_mono, counted_mono, year-months, year-is}
 use Rattle.datetime.proofs.Formulas.{in_year, year_began, month_began, month_least, month_most, day_most}
 use Rattle.datetime.proofs.Signed.{since, count-is}
@@ -118,7 +118,7 @@ module _ (n : ℕ) (lo : 31556995200000 ≤ n) (hi : n < 315569520000000) where
       parts : n / 86400000 * 86400000 + n % 86400000 ≡ n
       parts = omega arith
 
-  text-fits : judge date_time_form (text_at n) ≡ Fits
+  text-fits : judge date_time_form (text_at n) ≡ of_form
   text-fits = in_form_lem whole whole_valid (code "Z" ∷ []) utc
 
   text-value : instant_of (text_at n) ≡ sub_ℕ n 62167219200000
@@ -127,12 +127,12 @@ module _ (n : ℕ) (lo : 31556995200000 ≤ n) (hi : n < 315569520000000) where
       (eqb-false 90 45 refl))
 
 -- `round`: every instant that can be written is written as a text of the form that reads back to it
-pub round : (z : ℤ) → in_years z ≡ true → (judge date_time_form (date_time_text z) ≡ Fits) × (read_date_time (date_time_text z) ≡ Value z)
+pub round : (z : ℤ) → in_years z ≡ true → (judge date_time_form (date_time_text z) ≡ of_form) × (read_date_time (date_time_text z) ≡ Ok z)
 unfolding date_time_text
 round z e =
     let s = since z e in
     let n = s.count in
     let fits = text-fits n s.least s.most in
     let value = text-value n s.least s.most ∙ s.back in
-    subst (λ (m : ℕ). (judge date_time_form (text_at m) ≡ Fits) × (read_date_time (text_at m) ≡ Value z)) (count-is z s)
-    (fits, sym (read_value (text_at n) Fits (sym fits) refl z (sym value)))
+    subst (λ (m : ℕ). (judge date_time_form (text_at m) ≡ of_form) × (read_date_time (text_at m) ≡ Ok z)) (count-is z s)
+    (fits, sym (read_value (text_at n) of_form (sym fits) refl z (sym value)))

@@ -1,22 +1,19 @@
--- Signed milliseconds: the machine's difference and sum of two counts are the integers'; what writing answers, and a text put in its place.
-use mathlib.Core.Path.{◌≡◌, refl, sym, ap, ap₂, subst⁻¹, ◌∙◌}
+-- Signed milliseconds: the machine's difference and sum of two counts are the integers'; what writing answers.
+use mathlib.Core.Path.{◌≡◌, refl, sym, ap, subst⁻¹, ◌∙◌}
 use mathlib.Core.Bool.{Bool, true, false, cond, ◌&&◌}
-use Prim.Native.Nat.{ℕ, zero, suc, ◌+◌, ◌-◌, ◌^◌, ◌≤◌, ◌<◌}
+use Prim.Native.Nat.{ℕ, zero, suc, ◌+◌, ◌-◌, ◌≤◌, ◌<◌}
 use native.Mathlib.Omega.{arith}
-use lib.Dec.{T, ltb, leb}
-use lib.ListN.{length, take, drop, get_or, set}
-use lib.Seq.{length-take-le, take-suc, drop-cons, append_snoc, set_at}
-use mathlib.Core.List.{List, ◌++◌}
-use native.Mathlib.Numerals.{add-one}
+use lib.Dec.{ltb, leb}
+use lib.ListN.{length}
 use lib.IntN.{ℤ, pos, negsuc, ◌+ℤ◌, ◌-ℤ◌, sub_ℕ, nat_abs}
-use lib.Signed.{non_neg}
 use mir.Syntax.{w64}
-use mir.Val.{SFits, Fits, to_z, of_z}
+use mir.Val.{SFits, to_z, of_z}
 use mir.Facts.{to_z-of_z}
 use borrow.Author.Tests.{lt-ltb, le-ltb, leb-true}
 use Rattle.datetime.specs.Calendar.{before}
 use Rattle.form.specs.Writing.{into_room}
-use Rattle.form.specs.declared.Written.TheVariants.{Length, OutsideYears, NoRoom}
+use Rattle.form.specs.declared.Unwritten.TheVariants.{OutsideYears, NoRoom}
+use Rattle.std.specs.Prelude.{Ok, Err}
 use Rattle.datetime.specs.Instant.{epoch, in_years, date_time_text, write_date_time}
 
 pub epoch-is : epoch ≡ 62167219200000
@@ -27,26 +24,6 @@ epoch-is = refl
 pub minus : (a b : ℕ) → pos a -ℤ pos b ≡ sub_ℕ a b
 minus a zero = simp (le-ltb a 0 (omega arith)) (ap pos (omega arith))
 minus a (suc b) = refl
-
-small_difference : (a b : ℕ) → a < 2 ^ 62 → b < 2 ^ 62 → SFits w64 (sub_ℕ a b)
-small_difference a b h k = go (ltb a b) refl
-  where
-    go : (t : Bool) → ltb a b ≡ t → SFits w64 (cond t (negsuc (b - suc a)) (pos (a - b)))
-    go true e = record { sfits = omega arith }
-    go false e = record { sfits = omega arith }
-
-module _ (a b : ℕ) (h : a < 2 ^ 62) (k : b < 2 ^ 62) where
-  counts : to_z w64 a -ℤ to_z w64 b ≡ sub_ℕ a b
-  counts =
-      ap₂ (λ (x y : ℤ). x -ℤ y) (to_z-of_z {w = w64} {z = pos a} (record { sfits = omega arith }))
-      (to_z-of_z {w = w64} {z = pos b} (record { sfits = omega arith }))
-      ∙ minus a b
-
-  pub difference_fits : SFits w64 (to_z w64 a -ℤ to_z w64 b)
-  difference_fits = subst⁻¹ (SFits w64) counts (small_difference a b h k)
-
-  pub difference_is : to_z w64 (of_z w64 (to_z w64 a -ℤ to_z w64 b)) ≡ sub_ℕ a b
-  difference_is = to_z-of_z difference_fits ∙ counts
 
 -- an instant that the writer takes, from the year 0 on
 pub record Since (z : ℤ) : Type 0 where
@@ -94,10 +71,6 @@ module _ (z : ℤ) (f : SFits w64 z) (s : Since z) where
   moved : to_z w64 (of_z w64 (to_z w64 (of_z w64 z) +ℤ pos 62167219200000)) ≡ pos s.count
   moved = to_z-of_z sum_fits ∙ sum_is
 
-  pub moved-fits : T (non_neg (to_z w64 (of_z w64 (to_z w64 (of_z w64 z) +ℤ pos 62167219200000))))
-      × Fits w64 (nat_abs (to_z w64 (of_z w64 (to_z w64 (of_z w64 z) +ℤ pos 62167219200000))))
-  moved-fits = subst⁻¹ (λ (x : ℤ). T (non_neg x) × Fits w64 (nat_abs x)) moved (tt, record { fits = omega (arith, s.most) })
-
   pub moved-is : nat_abs (to_z w64 (of_z w64 (to_z w64 (of_z w64 z) +ℤ pos 62167219200000))) ≡ s.count
   moved-is = ap nat_abs moved
 
@@ -108,27 +81,20 @@ module _ (z : ℤ) where
   text_long = refl
 
   module _ (room : ℕ) where
-    pub outside : in_years z ≡ false → OutsideYears ≡ write_date_time z room
+    pub outside : in_years z ≡ false → Err OutsideYears ≡ write_date_time z room
     unfolding write_date_time
-    outside e = sym (ap (λ (b : Bool). cond b (into_room (date_time_text z) room) OutsideYears) e)
+    outside e = sym (ap (λ (b : Bool). cond b (into_room (date_time_text z) room) (Err OutsideYears)) e)
 
     module _ (e : in_years z ≡ true) where
       inside : into_room (date_time_text z) room ≡ write_date_time z room
       unfolding write_date_time
-      inside = sym (ap (λ (b : Bool). cond b (into_room (date_time_text z) room) OutsideYears) e)
+      inside = sym (ap (λ (b : Bool). cond b (into_room (date_time_text z) room) (Err OutsideYears)) e)
 
-      by_length : cond (ltb room 24) NoRoom (Length 24) ≡ write_date_time z room
-      by_length = sym (ap (λ (n : ℕ). cond (ltb room n) NoRoom (Length n)) text_long) ∙ inside
+      by_length : cond (ltb room 24) (Err NoRoom) (Ok 24) ≡ write_date_time z room
+      by_length = sym (ap (λ (n : ℕ). cond (ltb room n) (Err NoRoom) (Ok n)) text_long) ∙ inside
 
-      pub no_room : room < 24 → NoRoom ≡ write_date_time z room
-      no_room h = sym (ap (λ (b : Bool). cond b NoRoom (Length 24)) (lt-ltb room 24 h)) ∙ by_length
+      pub no_room : room < 24 → Err NoRoom ≡ write_date_time z room
+      no_room h = sym (ap (λ (b : Bool). cond b (Err NoRoom) (Ok 24)) (lt-ltb room 24 h)) ∙ by_length
 
-      pub written : 24 ≤ room → Length 24 ≡ write_date_time z room
-      written h = sym (ap (λ (b : Bool). cond b NoRoom (Length 24)) (le-ltb room 24 h)) ∙ by_length
-
--- one byte more of a text that is put at the front of a list
-pub put_step : (text old o : List ℕ) (i v : ℕ) → o ≡ take i text ++ drop i old → v ≡ get_or text i 0 → i < length text → i < length old →
-    set o i v ≡ take (i + 1) text ++ drop (i + 1) old
-put_step text old o i v e f h k =
-    let l : length (take i text) ≡ i = length-take-le i text (omega arith) in
-    rw (e, f, drop-cons old i 0 k, set_at (take i text) _ _ (get_or text i 0) i l, add-one i, take-suc text i 0 h, append_snoc)
+      pub written : 24 ≤ room → Ok 24 ≡ write_date_time z room
+      written h = sym (ap (λ (b : Bool). cond b (Err NoRoom) (Ok 24)) (le-ltb room 24 h)) ∙ by_length

@@ -7,29 +7,30 @@ use native.Mathlib.Nat.{add-zero}
 use mathlib.Core.Path.{◌≡◌, refl, sym, ap, ap₂, subst, subst⁻¹, ◌∙◌}
 use mathlib.Core.Bool.{Bool, true, false, ◌&&◌, ◌||◌}
 use mathlib.Core.List.{List, [], ◌∷◌, ◌++◌}
-use mathlib.Core.Logic.{⊎_elim}
 use borrow.Author.Tests.{eq-eqb, ne_eqb, le-leb}
 use lib.ListN.{length, get_or, drop}
 use lib.Seq.{drop-cons, drop-length}
 use lib.Dec.{T, eqb}
+use lib.IntN.{ℤ}
 use Rattle.octets.specs.Bytes.{Bytes}
 use Rattle.octets.specs.Decimal.{in_digits}
 use Rattle.octets.proofs.Lists.{bytes-append}
 use Rattle.form.specs.Regex.{judge}
 use Rattle.form.specs.Listings.{date_time_form}
-use Rattle.form.specs.declared.Verdict.TheVariants.{Fits}
-use Rattle.form.proofs.Steps.{is_true}
+use Rattle.std.specs.Prelude.{Result, Ok}
+use Rattle.form.specs.declared.Stop.{Stop}
+use Rattle.form.specs.Verdict.{of_form}
 use Rattle.datetime.specs.Calendar.{leap, month_days}
-use Rattle.datetime.specs.Instant.{digit_of, last_digit, Civil, spelled, civil_on, utc_text}
-use Rattle.datetime.specs.Plain.{pair, pair_at, leap_in, month_length}
-use Rattle.datetime.specs.Reach.{within, pair_end, marked_end, past, days_of, date_end, clock_end, offset_end, zone_verdict, verdict}
+use Rattle.datetime.specs.Instant.{digit_of, last_digit, Civil, spelled}
+use Rattle.datetime.specs.Plain.{pair, pair_at, leap_in}
+use Rattle.datetime.specs.Reading.{and_then, within, two_digits, marked, days_of, date, clock, offset, zoned, reading}
 use Rattle.datetime.proofs.Days.{month_length_lem}
 use Rattle.datetime.proofs.Formulas.{agree, month_days_lem}
 use Rattle.datetime.proofs.Onward.{by_digits}
 use Rattle.datetime.proofs.Listing.{is_sign}
-use Rattle.datetime.proofs.Passed.{DatePassed, date_passed, ClockPassed, clock-passed, offset-passed, Utc, Away, passed}
-use Rattle.datetime.proofs.Passed.{leaps, days_range, whole, other_sign}
-use Rattle.datetime.proofs.Walk.{verdict-is}
+use Rattle.datetime.proofs.Passed.{DatePassed, ClockPassed, OffsetPassed, Zoned, utc_read, plus_read, minus_read, passed}
+use Rattle.datetime.proofs.Passed.{leaps, days_range, through, other_sign}
+use Rattle.datetime.proofs.Walk.{reading_on}
 
 -- the leap rule by the two halves of the year
 pub leap_halves : (c x : ℕ) → x < 100 → leap (c * 100 + x) ≡ leap_in (eqb (c % 4) 0) x
@@ -58,13 +59,6 @@ year_halves c x h k =
     let e₃ : (c * 100 + x) / 10 % 10 ≡ x / 10 % 10 = omega arith in
     let e₄ : (c * 100 + x) % 10 ≡ x % 10 = omega arith in
     rw (e₁, e₂, e₃, e₄)
-
--- the text of a date and a clock time, by the halves of the year
-abbrev pub halved : ℕ → ℕ → ℕ → ℕ → ℕ → List ℕ
-halved c x m d t = (in_digits 2 c ++ in_digits 2 x) ++ drop 4 (utc_text (civil_on 0 m d t))
-
-pub utc_halves : (c x m d t : ℕ) → c < 100 → x < 100 → halved c x m d t ≡ utc_text (civil_on (c * 100 + x) m d t)
-utc_halves c x m d t h k = ap (λ (y : List ℕ). y ++ drop 4 (utc_text (civil_on 0 m d t))) (sym (year_halves c x h k))
 
 -- a zone: `Z`, or a sign and hours and minutes
 pub data Zone : List ℕ → Type 0 where
@@ -149,7 +143,7 @@ module _ (s : List ℕ) where
         milli = milli;
       }
 
-  module _ (a : DatePassed s) (b : ClockPassed s) where
+  module _ {day time : ℕ} (a : DatePassed s day) (b : ClockPassed s time) where
     valid : Valid shown
     valid =
         record {
@@ -208,47 +202,63 @@ module _ (s : List ℕ) where
         spread s i n (omega arith)
         ∙ ap (from s i n) (ap (λ (k : ℕ). drop k s) (sym e) ∙ drop-length s)
 
-    utc_zone : Utc s → Zone (drop 23 s)
-    utc_zone z = subst⁻¹ Zone (to_end 23 1 z.long ∙ ap (λ (c : ℕ). c ∷ []) z.letter) utc
+    offset-zone : (c o : ℕ) → T (is_sign c) → get_or s 23 0 ≡ c → OffsetPassed s o → Zone (drop 23 s)
+    offset-zone c o g e p =
+        let hour = digits 24 (omega (arith, p.hour.1)) in
+        let minute = digits 27 (omega (arith, p.minute.2)) in
+        let colon = p.minute.0 in
+        subst⁻¹ Zone (to_end 23 6 p.long ∙ (λ i. e i ∷ hour i ++ colon i ∷ minute i))
+        (away c (pair_at s 24) (pair_at s 27) g (omega (arith, p.hour.1)) (omega (arith, p.minute.2)))
 
-    offset-zone : Away s → Zone (drop 23 s)
-    offset-zone z =
-        let o = offset-passed s z.offset in
-        let hour = digits 24 (omega (arith, o.hour.1)) in
-        let minute = digits 27 (omega (arith, o.minute.2)) in
-        let colon = o.minute.0 in
-        subst⁻¹ Zone (to_end 23 6 z.long ∙ (λ i. get_or s 23 0 ∷ hour i ++ colon i ∷ minute i))
-        (away (get_or s 23 0) (pair_at s 24) (pair_at s 27) z.sign (omega (arith, o.hour.1)) (omega (arith, o.minute.2)))
+    zone_of : {n : ℕ} {z : ℤ} → Zoned s n z → Zone (drop 23 s)
+    zone_of (utc_read e l v) = subst⁻¹ Zone (to_end 23 1 l ∙ ap (λ (c : ℕ). c ∷ []) e) utc
+    zone_of (plus_read o e p v) = offset-zone (code "+") o tt e p
+    zone_of (minus_read o e p v) = offset-zone (code "-") o tt e p
 
-pub of_form : (s : List ℕ) → Bytes s → judge date_time_form s ≡ Fits → OfForm s
-of_form s b j =
-    let e = verdict-is s b ∙ j in
-    let p = passed s e in
-    let d = date_passed s p.date in
-    let c = clock-passed s p.clock in
+    reaches : {n : ℕ} {z : ℤ} → Zoned s n z → 23 ≤ length s
+    reaches (utc_read e l v) = omega arith
+    reaches (plus_read o e p v) = omega (arith, p.long)
+    reaches (minus_read o e p v) = omega (arith, p.long)
+
+pub parts_of : (s : List ℕ) → Bytes s → judge date_time_form s ≡ of_form → OfForm s
+parts_of s b j =
+    let r = through (reading s) (λ z. of_form) tt (sym (reading_on s b) ∙ j) in
+    let p = passed s r.0 r.1 in
+    let d = p.date_read in
+    let c = p.clock_read in
     record {
       civil = shown s;
       zone = drop 23 s;
       valid = valid s d c;
-      zoned = ⊎_elim (utc_zone s d c) (offset-zone s d c) p.zone;
-      whole = spread s 0 23 (omega (arith, (whole s e).0)) ∙ laid s d c (drop 23 s);
+      zoned = zone_of s d c p.zone_read;
+      whole = spread s 0 23 (reaches s d c p.zone_read) ∙ laid s d c (drop 23 s);
     }
 
--- and back: what is spelled is passed, part by part
-on_past : {e j f k : ℕ} → e ≡ j → f ≡ k → past j e f ≡ k
-on_past {e} {j} t g = rw (eq-eqb e j t) g
+-- and back: what is spelled is read, part by part
+abbrev Reads : {A : Type 0} → Result A Stop → Type 0
+Reads {A} r = (a : A) × (r ≡ Ok a)
+
+after_it : {A B : Type 0} (f : A → Result B Stop) {r : Result A Stop} {a : A} → r ≡ Ok a → Reads (f a) → Reads (and_then r f)
+after_it f e g = (g.0, ap (λ (x : _). and_then x f) e ∙ g.1)
 
 is_within : (least most v : ℕ) → least ≤ v → v ≤ most → within least most v ≡ true
 is_within least most v a b = ap₂ ◌&&◌ (le-leb least v a) (le-leb v most b)
 
 module _ (s : List ℕ) (i least most v : ℕ) (a : least ≤ v) (b : v ≤ most) where
-  on_pair : pair_at s i ≡ v → pair_end s i least most ≡ i + 2
-  unfolding pair_end
+  on_pair : pair_at s i ≡ v → two_digits s i least most ≡ Ok v
+  unfolding two_digits
   on_pair e = rw (e, is_within least most v a b)
 
-  on_marked : (c : ℕ) → get_or s i 0 ≡ c → pair_at s (i + 1) ≡ v → marked_end s i c least most ≡ i + 3
-  unfolding marked_end
-  on_marked c m e = rw (eq-eqb (get_or s i 0) c m, e, is_within least most v a b)
+module _ (s : List ℕ) (i least most v : ℕ) (a : least ≤ v) (b : v ≤ most) where
+  on_marked : (c : ℕ) → get_or s i 0 ≡ c → pair_at s (i + 1) ≡ v → marked s i c least most ≡ Ok v
+  unfolding marked
+  on_marked c m e = rw (eq-eqb (get_or s i 0) c m) (on_pair s (i + 1) least most v a b e)
+
+by_sign : (k : ℕ) → T (is_sign k) → (P : ℕ → Type 0) → P (code "+") → P (code "-") → P k
+by_sign k g P p m = elim (ℕ_discrete k (code "+")) [
+  | yes e ↦ subst⁻¹ P e p
+  | no n ↦ subst⁻¹ P (other_sign k g n) m
+]
 
 module _ (c : Civil) (v : Valid c) where
   abbrev hundreds : ℕ
@@ -275,68 +285,71 @@ module _ (c : Civil) (v : Valid c) where
     abbrev text : List ℕ
     text = spelled c ++ zone
 
-    -- the month's days, as the walk counts them
-    days_back : days_of text ≡ month_days (leap c.year) c.month
+    -- the month's days, as the reader counts them
+    days_back : days_of hundreds place c.month ≡ month_days (leap c.year) c.month
     days_back =
         let e : hundreds * 100 + place ≡ c.year = omega arith in
-        (λ i. month_length (leap_in (eqb (hundreds_back i % 4) 0) (place_back i)) (month_back i))
-        ∙ month_days_lem (leap_in (eqb (hundreds % 4) 0) place) c.month v.month_least (omega (arith, v.month_most))
+        month_days_lem (leap_in (eqb (hundreds % 4) 0) place) c.month v.month_least (omega (arith, v.month_most))
         ∙ ap (λ (l : Bool). month_days l c.month) (sym (leap_halves hundreds place (omega arith)) ∙ ap leap e)
 
-    spelled_date : date_end text ≡ 10
-    unfolding date_end
+    spelled_date : Reads (date text)
+    unfolding date
     spelled_date =
         let most = (month_length_lem (leap c.year) c.month v.month_least (omega (arith, v.month_most))).1 in
-        on_past (on_pair text 0 10 99 hundreds (omega (arith, v.year_least)) (omega (arith, v.year_most)) hundreds_back)
-        (on_past (on_pair text 2 0 99 place (omega arith) (omega arith) place_back)
-        (on_past (on_marked text 4 1 12 c.month v.month_least v.month_most (code "-") refl month_back)
-        (on_marked text 7 1 (days_of text) c.day v.day_least (subst⁻¹ (λ (n : ℕ). c.day ≤ n) days_back v.day_most) (code "-") refl
-        (pair_back c.day (omega (arith, v.day_most, most))))))
+        after_it _ (on_pair text 0 10 99 hundreds (omega (arith, v.year_least)) (omega (arith, v.year_most)) hundreds_back)
+        (after_it _ (on_pair text 2 0 99 place (omega arith) (omega arith) place_back)
+        (after_it _ (on_marked text 4 1 12 c.month v.month_least v.month_most (code "-") refl month_back)
+        (after_it _ (on_marked text 7 1 (days_of hundreds place c.month) c.day v.day_least
+        (subst⁻¹ (λ (n : ℕ). c.day ≤ n) days_back v.day_most) (code "-") refl (pair_back c.day (omega (arith, v.day_most, most))))
+        (_, refl))))
 
-    spelled-clock : clock_end text ≡ 23
-    unfolding clock_end
+    spelled-clock : Reads (clock text)
+    unfolding clock
     spelled-clock =
         let hour = v.hour_small in
         let minute = v.minute_small in
         let second = v.second_small in
         let milli = v.milli_small in
-        on_past (on_marked text 10 0 23 c.hour (omega arith) (omega arith) (code "T") refl (pair_back c.hour (omega arith)))
-        (on_past (on_marked text 13 0 59 c.minute (omega arith) (omega arith) (code ":") refl (pair_back c.minute (omega arith)))
-        (on_past (on_marked text 16 0 59 c.second (omega arith) (omega arith) (code ":") refl (pair_back c.second (omega arith)))
-        (on_past (on_marked text 19 0 99 (c.milli / 10) (omega arith) (omega arith) (code ".") refl (pair_back (c.milli / 10)
-        (omega arith)))
-        (rw (is_within (code "0") (code "9") (last_digit c.milli) (omega arith) (omega arith))))))
+        after_it _ (on_marked text 10 0 23 c.hour (omega arith) (omega arith) (code "T") refl (pair_back c.hour (omega arith)))
+        (after_it _ (on_marked text 13 0 59 c.minute (omega arith) (omega arith) (code ":") refl (pair_back c.minute (omega arith)))
+        (after_it _ (on_marked text 16 0 59 c.second (omega arith) (omega arith) (code ":") refl (pair_back c.second (omega arith)))
+        (after_it _ (on_marked text 19 0 99 (c.milli / 10) (omega arith) (omega arith) (code ".") refl (pair_back (c.milli / 10)
+        (omega arith))) (
+          c.hour * 3600000 + c.minute * 60000 + c.second * 1000 + (c.milli / 10 * 10 + digit_of (last_digit c.milli)),
+          rw (is_within (code "0") (code "9") (last_digit c.milli) (omega arith) (omega arith)) refl,
+        ))))
 
     text-bytes : Zone zone → Bytes text
     text-bytes z = bytes-append (spelled c) zone (omega arith) (zone-bytes z)
       where
         sign_byte : (k : ℕ) → T (is_sign k) → k < 256
-        sign_byte k g = elim (ℕ_discrete k (code "+")) [
-          | yes p ↦ omega arith
-          | no p ↦ omega (arith, other_sign k g p)
-        ]
+        sign_byte k g = by_sign k g (λ (x : ℕ). x < 256) (omega arith) (omega arith)
 
         zone-bytes : {zone : List ℕ} → Zone zone → Bytes zone
         zone-bytes utc = omega arith
         zone-bytes (away k h n g hh hn) = (sign_byte k g, omega arith)
 
-  spelled-zone : (zone : List ℕ) → Zone zone → zone_verdict (spelled c ++ zone) ≡ Fits
-  unfolding zone_verdict offset_end
-  spelled-zone zone utc = refl
-  spelled-zone zone (away k h n g hh hn) = elim (ℕ_discrete k (code "Z")) [
-    | yes z ↦ absurd (subst (λ (x : ℕ). T (is_sign x)) z g)
-    | no z ↦
-        let s = spelled c ++ k ∷ in_digits 2 h ++ code ":" ∷ in_digits 2 n in
-        let o : offset_end s ≡ 29 =
-        on_past (on_pair s 24 0 19 h (omega arith) (omega arith) (pair_back h (omega arith)))
-        (on_marked s 26 0 59 n (omega arith) (omega arith) (code ":") refl (pair_back n (omega arith))) in
-        rw (ne_eqb k (code "Z") z, is_true (is_sign k) g, eq-eqb (offset_end s) 29 o)
-  ]
+  spelled-offset : (k h n : ℕ) → h < 20 → n < 60 → Reads (offset (spelled c ++ k ∷ in_digits 2 h ++ code ":" ∷ in_digits 2 n))
+  unfolding offset
+  spelled-offset k h n hh hn =
+      let s = spelled c ++ k ∷ in_digits 2 h ++ code ":" ∷ in_digits 2 n in
+      after_it _ (on_pair s 24 0 19 h (omega arith) (omega arith) (pair_back h (omega arith)))
+      (after_it _ (on_marked s 26 0 59 n (omega arith) (omega arith) (code ":") refl (pair_back n (omega arith))) (_, refl))
+
+  spelled-zone : (m : ℕ) (zone : List ℕ) → Zone zone → Reads (zoned (spelled c ++ zone) m)
+  unfolding zoned
+  spelled-zone m zone utc = (_, refl)
+  spelled-zone m zone (away k h n g hh hn) = by_sign k g
+      (λ (x : ℕ). Reads (zoned (spelled c ++ x ∷ in_digits 2 h ++ code ":" ∷ in_digits 2 n) m))
+      (after_it _ (spelled-offset (code "+") h n hh hn).1 (_, refl)) (after_it _ (spelled-offset (code "-") h n hh hn).1 (_, refl))
 
 -- a valid date and clock time and a zone are of the form
-pub in_form_lem : (c : Civil) → Valid c → (zone : List ℕ) → Zone zone → judge date_time_form (spelled c ++ zone) ≡ Fits
-unfolding verdict
+pub in_form_lem : (c : Civil) → Valid c → (zone : List ℕ) → Zone zone → judge date_time_form (spelled c ++ zone) ≡ of_form
+unfolding reading
 in_form_lem c v zone z =
     let s = spelled c ++ zone in
-    sym (verdict-is s (text-bytes c v zone z))
-    ∙ rw (eq-eqb (date_end s) 10 (spelled_date c v zone), eq-eqb (clock_end s) 23 (spelled-clock c v zone)) (spelled-zone c v zone z)
+    let d = spelled_date c v zone in
+    let t = spelled-clock c v zone in
+    let read = after_it (λ (d : ℕ). and_then (clock s) (λ t. zoned s (d * 86400000 + t))) d.1
+    (after_it (λ (t : ℕ). zoned s (d.0 * 86400000 + t)) t.1 (spelled-zone c v (d.0 * 86400000 + t.0) zone z)) in
+    reading_on s (text-bytes c v zone z) ∙ ap (λ (x : Result ℤ Stop). and_then x (λ n. of_form)) read.1

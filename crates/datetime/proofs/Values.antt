@@ -1,11 +1,12 @@
 -- What a text of the form shows: the fields that were spelled, in their ranges.
 use mathlib.Core.Path.{◌≡◌, refl, sym, ap, subst⁻¹, ◌∙◌}
 use mathlib.Core.List.{List, ◌++◌}
-use Prim.Native.Nat.{ℕ, ◌+◌, ◌*◌, ◌/◌, ◌≤◌, ◌<◌}
+use Rattle.std.specs.Prelude.{Result, Ok, Err}
+use Prim.Native.Nat.{ℕ, ◌+◌, ◌*◌, ◌/◌, ◌<◌}
 use Prim.Native.Char.{code}
 use native.Mathlib.Nat.{add-zero}
 use native.Mathlib.Omega.{arith}
-use lib.ListN.{length, get_or}
+use lib.ListN.{get_or}
 use lib.Dec.{eqb}
 use mathlib.Core.Bool.{false}
 use lib.IntN.{ℤ, sub_ℕ}
@@ -13,14 +14,17 @@ use borrow.Author.Tests.{eq-eqb, ne_eqb, eqb-false}
 use Rattle.octets.specs.Bytes.{Bytes}
 use Rattle.form.specs.Regex.{judge}
 use Rattle.form.specs.Listings.{date_time_form}
-use Rattle.form.specs.declared.Verdict.{Verdict}
-use Rattle.form.specs.declared.Verdict.TheVariants.{Fits, Stops}
+use Rattle.form.specs.declared.Stop.{Stop}
+use Rattle.form.specs.Verdict.{Verdict, of_form, value_by}
 use Rattle.datetime.specs.Calendar.{leap, day_number}
-use Rattle.datetime.specs.Instant.{digit_of, last_digit, number, Civil, civil_of, spelled, time_of, offset_after, instant_of, value_of, read_date_time}
-use Rattle.datetime.specs.declared.InstantRead.TheVariants.{Value, Refused}
+use Rattle.datetime.specs.Instant.{digit_of, last_digit, number, Civil, civil_of, spelled, time_of, offset_after, instant_of, read_date_time}
 use Rattle.datetime.proofs.Days.{month_length_lem}
 use Rattle.datetime.proofs.Signed.{epoch-is}
-use Rattle.datetime.proofs.Texts.{Valid, Zone, utc, away, of_form}
+use Rattle.datetime.specs.Plain.{pair_at}
+use Rattle.datetime.specs.Reading.{and_then, reading}
+use Rattle.datetime.proofs.Passed.{shown-number, days_range, leaps, OffsetPassed, Zoned, utc_read, plus_read, minus_read, Passed, passed}
+use Rattle.datetime.proofs.Walk.{reading_on}
+use Rattle.datetime.proofs.Texts.{Valid, parts_of}
 
 -- digits show the number that they were made of
 pub back_two : (x : ℕ) → x < 100 → (0 + digit_of (last_digit (x / 10))) * 10 + digit_of (last_digit x) ≡ x
@@ -50,30 +54,10 @@ civil_back c v zone =
     }
 
 -- the fields of a text of the form are in their ranges
-pub valid_of : (s : List ℕ) → Bytes s → judge date_time_form s ≡ Fits → Valid (civil_of s)
+pub valid_of : (s : List ℕ) → Bytes s → judge date_time_form s ≡ of_form → Valid (civil_of s)
 valid_of s b j =
-    let t = of_form s b j in
+    let t = parts_of s b j in
     subst⁻¹ Valid (ap civil_of t.whole ∙ civil_back t.civil t.valid t.zone) t.valid
-
--- and so many bytes it has: 24 to the zone, and the five of an offset
-zone_long : {zone : List ℕ} → Zone zone → 1 ≤ length zone
-zone_long utc = omega arith
-zone_long (away c h n g hh hn) = omega arith
-
-pub long_of : (s : List ℕ) → Bytes s → judge date_time_form s ≡ Fits → 24 ≤ length s
-long_of s b j =
-    let t = of_form s b j in
-    subst⁻¹ (λ (l : List ℕ). 24 ≤ length l) t.whole (omega (arith, zone_long t.zoned))
-
-offset_long : {zone : List ℕ} → Zone zone → (get_or zone 0 0 ≡ code "Z" → ⊥) → length zone ≡ 6
-offset_long utc n = absurd (n refl)
-offset_long (away c h n g hh hn) k = refl
-
-pub offset_of : (s : List ℕ) → Bytes s → judge date_time_form s ≡ Fits → (get_or s 23 0 ≡ code "Z" → ⊥) → 29 ≤ length s
-offset_of s b j n =
-    let t = of_form s b j in
-    let first : get_or s 23 0 ≡ get_or t.zone 0 0 = ap (λ (l : List ℕ). get_or l 23 0) t.whole in
-    subst⁻¹ (λ (l : List ℕ). 29 ≤ length l) t.whole (omega (arith, offset_long t.zoned (λ e. n (first ∙ e))))
 
 -- what the reader counts up is what the fields are worth
 module _ (s : List ℕ) (a b m d : ℕ) (ea : a ≡ number s 0 2) (eb : b ≡ number s 2 2) (em : m ≡ number s 5 2) (ed : d ≡ number s 8 2) where
@@ -127,12 +111,49 @@ module _ (s : List ℕ) (l : ℕ) (el : l ≡ time_of (civil_of s)) where
       ap (λ (x : ℕ). sub_ℕ x 62167219200000) (sym (add-zero l)) ∙ zone_off s l 0 0 el (offset-none s (code "-") m)
       (offset-none s (code "+") p)
 
--- what reading answers, by the verdict
-module _ (s : List ℕ) (v : Verdict) (e : v ≡ judge date_time_form s) where
-  pub read_value : v ≡ Fits → (z : ℤ) → z ≡ instant_of s → Value z ≡ read_date_time s
-  unfolding read_date_time
-  read_value f z h = ap Value h ∙ ap (λ (x : Verdict). value_of x s) (sym f ∙ e)
+-- what was read of a text is its value
+module _ (s : List ℕ) where
+  offset_count : (o : ℕ) → OffsetPassed s o → o ≡ number s 24 2 * 3600000 + number s 27 2 * 60000
+  offset_count o p =
+      let hour = shown-number s 24 (omega (arith, p.hour.1)) in
+      let minute = shown-number s 27 (omega (arith, p.minute.2)) in
+      sym p.count ∙ (λ i. hour i * 3600000 + minute i * 60000)
 
-  pub read-refused : (n : ℕ) → v ≡ Stops n → Refused n ≡ read_date_time s
+  zone_value : (n : ℕ) (z : ℤ) → n ≡ time_of (civil_of s) → Zoned s n z → z ≡ instant_of s
+  zone_value n z e (utc_read f l v) =
+      sym v ∙ neither s n e (λ g. eqb-false 90 43 refl (sym f ∙ g)) (λ g. eqb-false 90 45 refl (sym f ∙ g))
+  zone_value n z e (plus_read o f p v) = sym v ∙ ahead s n e f o (offset_count o p)
+  zone_value n z e (minus_read o f p v) = sym v ∙ behind s n e f o (offset_count o p)
+
+  passed_value : (z : ℤ) → Passed s z → z ≡ instant_of s
+  passed_value z p =
+      let d = p.date_read in
+      let t = p.clock_read in
+      let days = (days_range (leaps s) (pair_at s 5) d.month.1 d.month.2).1 in
+      let century = shown-number s 0 (omega (arith, d.century.1)) in
+      let year = shown-number s 2 (omega (arith, d.year.1)) in
+      let month = shown-number s 5 (omega (arith, d.month.2)) in
+      let day = shown-number s 8 (omega (arith, d.day.2, days)) in
+      let hour = shown-number s 11 (omega (arith, t.hour.2)) in
+      let minute = shown-number s 14 (omega (arith, t.minute.2)) in
+      let second = shown-number s 17 (omega (arith, t.second.2)) in
+      let hundredth = shown-number s 20 (omega (arith, t.hundredth.2)) in
+      zone_value (p.day * 86400000 + p.time) z
+      (time_counted s (pair_at s 0) (pair_at s 2) (pair_at s 5) (pair_at s 8) century year month day p.day p.time (sym d.count)
+      (sym t.count ∙ (λ i. hour i * 3600000 + minute i * 60000 + second i * 1000 + (hundredth i * 10 + digit_of (get_or s 22 0)))))
+      p.zone_read
+
+  pub reading_is : Bytes s → reading s ≡ read_date_time s
   unfolding read_date_time
-  read-refused n f = ap (λ (x : Verdict). value_of x s) (sym f ∙ e)
+  reading_is b =
+      go (reading s) refl ∙ ap (λ (w : Verdict). value_by w (instant_of s)) (sym (reading_on s b))
+    where
+      go : (r : Result ℤ Stop) → reading s ≡ r → r ≡ value_by (and_then r (λ z. of_form)) (instant_of s)
+      go (Ok z) e = ap (λ (x : ℤ). Ok x) (passed_value z (passed s z e))
+      go (Err x) e = refl
+
+-- the value of a text of the form
+module _ (s : List ℕ) (v : Verdict) (e : v ≡ judge date_time_form s) where
+  pub read_value : v ≡ of_form → (z : ℤ) → z ≡ instant_of s → Ok z ≡ read_date_time s
+  unfolding read_date_time
+  read_value f z h = ap (λ (x : ℤ). Ok x) h ∙ ap (λ (w : Verdict). value_by w (instant_of s)) (sym f ∙ e)

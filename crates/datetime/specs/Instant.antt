@@ -1,19 +1,16 @@
 -- DateTime texts and instants: what a text is worth, how an instant is written, and what reader and writer answer (01, "Field texts").
-use Rattle.std.specs.Prelude.{ℕ, zero, suc, ◌+◌, ◌-◌, ◌*◌, ◌/◌, ◌%◌, Bool, cond, ◌&&◌, List, [], ◌∷◌, ◌++◌, eqb, get_or, ℤ, pos, neg_ℤ, ◌+ℤ◌, nat_abs}
+use Rattle.std.specs.Prelude.{ℕ, zero, suc, ◌+◌, ◌-◌, ◌*◌, ◌/◌, ◌%◌, Bool, cond, ◌&&◌, List, [], ◌∷◌, ◌++◌, eqb, get_or, ℤ, pos, neg_ℤ, ◌+ℤ◌, nat_abs, Result, Err}
 use Prim.Native.Char.{code}
 use Rattle.std.proofs.Math.IntN.{sub_ℕ}
 use Rattle.std.specs.Int.Signed.{le_z}
 use Rattle.octets.specs.Decimal.{in_digits}
 use Rattle.form.specs.Regex.{judge}
 use Rattle.form.specs.Listings.{date_time_form}
-use Rattle.form.specs.Writing.{into_room}
-use Rattle.form.specs.declared.Verdict.{Verdict}
-use Rattle.form.specs.declared.Verdict.TheVariants.{Fits, Stops}
-use Rattle.form.specs.declared.Written.{Written}
-use Rattle.form.specs.declared.Written.TheVariants.{OutsideYears}
+use Rattle.form.specs.Writing.{Written, into_room}
+use Rattle.form.specs.Verdict.{value_by}
+use Rattle.form.specs.declared.Stop.{Stop}
+use Rattle.form.specs.declared.Unwritten.TheVariants.{OutsideYears}
 use Rattle.datetime.specs.Calendar.{day_number, year_of, month_of, day_of}
-use Rattle.datetime.specs.declared.InstantRead.{InstantRead}
-use Rattle.datetime.specs.declared.InstantRead.TheVariants.{Value, Refused}
 
 -- what a digit shows, and the digit of a number's last place
 abbrev pub digit_of : ℕ → ℕ
@@ -67,12 +64,8 @@ abbrev pub instant_of : List ℕ → ℤ
 instant_of s = sub_ℕ (time_of (civil_of s) + offset_after (code "-") s) (epoch + offset_after (code "+") s)
 
 -- a value exactly of a text of listing 12's form; else the offset at which no text of the form goes on
-abbrev pub value_of : Verdict → List ℕ → InstantRead
-value_of Fits s = Value (instant_of s)
-value_of (Stops n) s = Refused n
-
-unfoldable pub read_date_time : List ℕ → InstantRead
-read_date_time s = value_of (judge date_time_form s) s
+unfoldable pub read_date_time : List ℕ → Result ℤ Stop
+read_date_time s = value_by (judge date_time_form s) (instant_of s)
 
 -- `yyyy-MM-ddTHH:mm:ss.SSS`
 abbrev pub spelled : Civil → List ℕ
@@ -119,4 +112,4 @@ in_years z = le_z earliest z && le_z z latest
 
 -- "22, 23": outside the years first, then no room
 unfoldable pub write_date_time : ℤ → ℕ → Written
-write_date_time z room = cond (in_years z) (into_room (date_time_text z) room) OutsideYears
+write_date_time z room = cond (in_years z) (into_room (date_time_text z) room) (Err OutsideYears)

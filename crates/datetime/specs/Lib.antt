@@ -1,4 +1,4 @@
 pub mod Calendar
 pub mod Instant
 pub mod Plain
-pub mod Reach
+pub mod Reading

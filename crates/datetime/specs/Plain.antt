@@ -6,7 +6,7 @@ use Rattle.datetime.specs.Instant.{digit_of}
 abbrev pub is_digit : ℕ → Bool
 is_digit c = leb (code "0") c && leb c (code "9")
 
--- the number that two digits show; 255 where one is no digit
+-- the number that two digits show; 255, which is in no range, where one is no digit
 abbrev pub pair : ℕ → ℕ → ℕ
 pair a b = cond (is_digit a && is_digit b) (digit_of a * 10 + digit_of b) 255
 

@@ -1,8 +1,9 @@
 // The text of an instant: 24 bytes, always with `Z`.
-ghost use Rattle.std.specs.Prelude.{◌≡◌, true, ◌+◌, ◌*◌, ◌/◌, ◌≤◌, ◌<◌, ◌++◌, length, drop, ◌+ℤ◌, pos, nat_abs};
+ghost use Rattle.std.specs.Prelude.{◌≡◌, true, ◌+◌, ◌*◌, ◌/◌, ◌≤◌, ◌<◌, ◌+ℤ◌, pos, nat_abs};
 ghost use Rattle.datetime.specs.Instant.{last_digit, epoch, civil_on, utc_text, date_time_text, in_years};
 
-use crate::calendar::Date;
+use crate::calendar::{Date, Year};
+use crate::reader::EPOCH;
 
 // The instants that the writer takes: the years 1000 to 9999 UTC.
 pub fn in_years(ms: i64) -> bool
@@ -14,44 +15,44 @@ pub fn in_years(ms: i64) -> bool
 // Milliseconds from 0000-01-01T00:00:00.000Z.
 fn since_zero(ms: i64) -> u64
     requires { in_years ms ≡ true }
-    ensures { (result ≡ nat_abs (ms +ℤ pos epoch)) × (31556995200000 ≤ result) × (result < 315569520000000) }
+    ensures { (result ≡ nat_abs (ms +ℤ pos epoch)) × (31556995200000 ≤ result) ×
+        (result < 315569520000000) }
 {
-    let n = ms + 62167219200000;
-    n as u64
+    (ms + EPOCH as i64) as u64
 }
 
 fn tens(x: u64) -> u8
     requires { x < 100 }
     ensures { result ≡ last_digit (x / 10) }
 {
-    (48 + x / 10) as u8
+    b'0' + x as u8 / 10
 }
 
 fn ones(x: u64) -> u8
+    requires { x < 100 }
     ensures { result ≡ last_digit x }
 {
-    (48 + x % 10) as u8
+    b'0' + x as u8 % 10
 }
 
 // A date, and so many milliseconds into the day, spelled.
 fn spell(date: Date, t: u64) -> [u8; 24]
-    requires { (date.century ≤ 99) × (date.year ≤ 99) × (date.month ≤ 12) × (date.day ≤ 31) × (t < 86400000) }
-    ensures { result ≡ utc_text (civil_on (date.century * 100 + date.year) date.month date.day t) }
+    requires { t < 86400000 }
+    ensures { result ≡
+        utc_text (civil_on (date.year.century * 100 + date.year.place) date.month date.day t) }
 {
-    let century = date.century;
-    let year = date.year;
-    let month = date.month;
-    let day = date.day;
+    let Date { year, month, day } = date;
+    let Year { century, place } = year;
     let hour = t / 3600000;
     let minute = t / 60000 % 60;
     let second = t / 1000 % 60;
     let milli = t % 1000;
     let hundredth = milli / 10;
-    let text = [
+    [
         tens(century),
         ones(century),
-        tens(year),
-        ones(year),
+        tens(place),
+        ones(place),
         b'-',
         tens(month),
         ones(month),
@@ -70,10 +71,9 @@ fn spell(date: Date, t: u64) -> [u8; 24]
         b'.',
         tens(hundredth),
         ones(hundredth),
-        ones(milli),
+        b'0' + (milli % 10) as u8,
         b'Z',
-    ];
-    text
+    ]
 }
 
 // The text of an instant that the writer takes.
@@ -85,16 +85,4 @@ pub fn text_of(ms: i64) -> [u8; 24]
     let day = n / 86400000;
     let t = n % 86400000;
     spell(crate::calendar::date_of(day), t)
-}
-
-// Puts the text at the front of the buffer. The count is fixed, so that the bytes go straight to their places.
-pub fn put(text: &[u8; 24], out: &mut [u8])
-    requires { (length text.now ≡ 24) × (24 ≤ length out.old) }
-    ensures { out.new ≡ text.now ++ drop 24 out.old }
-{
-    let mut i: usize = 0;
-    while i < 24 {
-        out[i] = text[i];
-        i += 1;
-    }
 }

@@ -6,6 +6,7 @@ use mathlib.Core.List.{List, [], ◌∷◌}
 use native.Mathlib.Omega.{arith}
 use lib.ListN.{length, get_or}
 use borrow.Author.Tests.{eq-eqb, ne_eqb}
+use Rattle.std.specs.Prelude.{Option, Some, None}
 use Rattle.rules.specs.Calls.{Text}
 use Rattle.lines.specs.Lines.{pieces, well_built, words_of}
 use Rattle.lines.proofs.Cut.{words_pieces}
@@ -15,9 +16,9 @@ use Rattle.book.specs.Step.{Outcome, outcome}
 use Rattle.time.specs.Effect.{TimeOutcome}
 use Rattle.desk.specs.declared.Reply.{Reply}
 use Rattle.desk.specs.declared.words.Word.{Word}
-use Rattle.desk.specs.declared.words.Word.TheVariants.{Open, Join, Prepare, Fulfil, Abort, Time, Other}
+use Rattle.desk.specs.declared.words.Word.TheVariants.{Open, Join, Prepare, Fulfil, Abort, Time}
 use Rattle.desk.specs.Words.{word_of, fields_in}
-use Rattle.desk.specs.Desk.{beside, timed, no_call, called, line_step, field_of, line_outcome}
+use Rattle.desk.specs.Desk.{beside, timed, no_call, call_on, called, line_step, field_of, line_outcome}
 
 pub few : (w : Word) → fields_in w ≤ 8
 few Open = omega arith
@@ -26,42 +27,43 @@ few Prepare = omega arith
 few Fulfil = omega arith
 few Abort = omega arith
 few Time = omega arith
-few Other = omega arith
 
 module _ (b : Book) (list : List ℕ) where
-  -- as many fields as the word has
-  enough : (ws : List Text) → length ws ≡ fields_in (word_of (get_or ws 0 [])) + 1 →
-      line_step b list ws ≡ called b list (word_of (get_or ws 0 [])) (λ k. get_or ws k [])
-  unfolding line_step
-  enough [] e = absurd (omega (arith, e))
-  enough (word ∷ fields) e =
-      let l : length fields ≡ fields_in (word_of word) = omega (arith, e) in
-      rw (eq-eqb (length fields) (fields_in (word_of word)) l)
+  none_called : (o : Option Word) → call_on b list o [] ≡ no_call b list
+  unfolding call_on
+  none_called None = refl
+  none_called (Some w) = rw (ne_eqb 0 (fields_in w + 1) (λ e. omega (arith, e)))
 
-  -- too few or too many
-  others : (ws : List Text) → (length ws ≡ fields_in (word_of (get_or ws 0 [])) + 1 → ⊥) → line_step b list ws ≡ no_call b list
+  first_word : (ws : List Text) → line_step b list ws ≡ call_on b list (word_of (get_or ws 0 [])) ws
   unfolding line_step
-  others [] e = refl
-  others (word ∷ fields) e = rw (ne_eqb (length fields) (fields_in (word_of word)) (λ l. e (omega (arith, l))))
+  first_word [] = sym (none_called _)
+  first_word (word ∷ fields) = refl
 
   module _ (line : List ℕ) where
-    module _ (w : Word) (k n : ℕ) (named : w ≡ word_of (field_of line 0)) (asks : k ≡ fields_in w) (has : n ≡ length (words_of line)) where
-      words_in : fields_in (word_of (field_of line 0)) ≡ k
-      words_in = sym (asks ∙ ap fields_in named)
+    -- the call that the line's first piece names, on the words of the line
+    named_on : line_step b list (words_of line) ≡ call_on b list (word_of (field_of line 0)) (words_of line)
+    unfolding words_of line_step
+    named_on = by (well_built line)
+      where
+        by : (t : Bool) → line_step b list (cond t (pieces line) []) ≡ call_on b list (word_of (field_of line 0)) (cond t (pieces line) [])
+        by true = first_word (pieces line)
+        by false = sym (none_called _)
+
+    pub line_unnamed : word_of (field_of line 0) ≡ None → no_call b list ≡ line_step b list (words_of line)
+    unfolding call_on
+    line_unnamed e = sym (named_on ∙ rw e)
+
+    module _ (w : Word) (k n : ℕ) (named : Some w ≡ word_of (field_of line 0)) (asks : k ≡ fields_in w) (has : n ≡ length (words_of line)) where
+      pub line_refused : (n ≡ k + 1 → ⊥) → no_call b list ≡ line_step b list (words_of line)
+      unfolding call_on
+      line_refused e = sym (named_on ∙ rw (sym named, ne_eqb (length (words_of line)) (fields_in w + 1) (λ l. e (has ∙ l ∙ rw (sym asks)))))
 
       pub line_called : n ≡ k + 1 → called b list w (field_of line) ≡ line_step b list (words_of line)
+      unfolding call_on
       line_called e =
-          let p : words_of line ≡ pieces line = words_pieces line (omega (arith, has, e)) in
-          let l : length (pieces line) ≡ fields_in (word_of (field_of line 0)) + 1 = ap length (sym p) ∙ sym has ∙ e ∙ (rw words_in) in
-          sym (ap (line_step b list) p ∙ enough (pieces line) l ∙ (rw named))
-
-      pub line_refused : (n ≡ k + 1 → ⊥) → no_call b list ≡ line_step b list (words_of line)
-      unfolding words_of
-      line_refused e = by (well_built line) has
-        where
-          by : (t : Bool) → n ≡ length (cond t (pieces line) []) → no_call b list ≡ line_step b list (cond t (pieces line) [])
-          by true h = sym (others (pieces line) (λ l. e (h ∙ l ∙ (rw words_in))))
-          by false h = sym (others [] (λ l. absurd (omega (arith, l))))
+          let all : words_of line ≡ pieces line = words_pieces line (omega (arith, has, e)) in
+          let many : length (pieces line) ≡ fields_in w + 1 = ap length (sym all) ∙ sym has ∙ e ∙ rw asks in
+          sym (named_on ∙ rw (sym named, all, eq-eqb (length (pieces line)) (fields_in w + 1) many))
 
 -- what the code hands back of a call
 module _ (q : Reply) (r : Answered) (opened ended list : List ℕ) where

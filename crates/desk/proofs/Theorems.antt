@@ -1,5 +1,6 @@
 -- What a reader of the line program can count on beside the promise of `reply_to`.
-use Prim.Native.Nat.{ℕ}
+use Prim.Native.Nat.{ℕ, ◌+◌}
+use Rattle.std.specs.Prelude.{Option, Some, None}
 use mathlib.Core.Path.{◌≡◌, refl, ap, sym, ◌∙◌}
 use mathlib.Core.Bool.{Bool, true, false, false≢true, cond, ◌&&◌}
 use mathlib.Core.List.{List, [], ◌∷◌}
@@ -24,9 +25,9 @@ use Rattle.abort.proofs.Theorems as aborting
 use Rattle.time.specs.Effect.{time_step}
 use Rattle.time.proofs.Theorems as timing
 use Rattle.desk.specs.declared.words.Word.{Word}
-use Rattle.desk.specs.declared.words.Word.TheVariants.{Open, Join, Prepare, Fulfil, Abort, Time, Other}
+use Rattle.desk.specs.declared.words.Word.TheVariants.{Open, Join, Prepare, Fulfil, Abort, Time}
 use Rattle.desk.specs.Words.{word_of, fields_in}
-use Rattle.desk.specs.Desk.{LineOutcome, beside, no_call, called, line_step, never_opened}
+use Rattle.desk.specs.Desk.{LineOutcome, beside, no_call, call_on, called, line_step, never_opened}
 
 module _ (b : Book) (list : List ℕ) where
   -- the promise leaves one answer only
@@ -46,19 +47,22 @@ module _ (b : Book) (list : List ℕ) where
   call_keeps Fulfil field e = (fulfilling.refused_keeps b (field 1) (field 2) (field 3) e, refl)
   call_keeps Abort field e = (aborting.refused_keeps b (field 1) (field 2) (field 3) e, refl)
   call_keeps Time field e = timing.refused_keeps b list (field 1) e
-  call_keeps Other field e = (refl, refl)
 
-  pub refused_keeps : (ws : List Text) → is_done (line_step b list ws).outcome.answer ≡ false → Keeps (line_step b list ws)
-  unfolding line_step
-  refused_keeps [] e = (refl, refl)
-  refused_keeps (word ∷ fields) e =
-      by (eqb (length fields) (fields_in (word_of word))) (called b list (word_of word) (λ k. get_or (word ∷ fields) k []))
-      (call_keeps (word_of word) (λ k. get_or (word ∷ fields) k [])) e
+  on_keeps : (o : Option Word) (ws : List Text) → is_done (call_on b list o ws).outcome.answer ≡ false → Keeps (call_on b list o ws)
+  unfolding call_on
+  on_keeps None ws e = (refl, refl)
+  on_keeps (Some w) ws e =
+      by (eqb (length ws) (fields_in w + 1)) (called b list w (λ k. get_or ws k [])) (call_keeps w (λ k. get_or ws k [])) e
     where
       by : (t : Bool) (call : LineOutcome) → (is_done call.outcome.answer ≡ false → Keeps call) →
           is_done (cond t call (no_call b list)).outcome.answer ≡ false → Keeps (cond t call (no_call b list))
       by true call keeps e = keeps e
       by false call keeps e = (refl, refl)
+
+  pub refused_keeps : (ws : List Text) → is_done (line_step b list ws).outcome.answer ≡ false → Keeps (line_step b list ws)
+  unfolding line_step
+  refused_keeps [] e = (refl, refl)
+  refused_keeps (word ∷ fields) e = on_keeps (word_of word) (word ∷ fields) e
 
 -- the head of zeros is out of the shape, whatever the books hold
 unopened : (b : Book) → b.head.slots ≡ 0 → shape b ≡ false
@@ -76,7 +80,14 @@ is_open Prepare = false
 is_open Fulfil = false
 is_open Abort = false
 is_open Time = false
-is_open Other = false
+
+-- whether a line's first word is OPEN
+abbrev pub opened_by : Option Word → Bool
+opened_by None = false
+opened_by (Some w) = is_open w
+
+abbrev pub opens : List Text → Bool
+opens ws = opened_by (word_of (get_or ws 0 []))
 
 -- "Before an accepted OPEN the other calls answer 21": 01's "Every call but open tests this first" is all that it takes
 module _ (b : Book) (list : List ℕ) (never : b.head ≡ never_opened) where
@@ -86,15 +97,14 @@ module _ (b : Book) (list : List ℕ) (never : b.head ≡ never_opened) where
   abbrev pub out_of_shape : LineOutcome
   out_of_shape = beside list (kept b OutOfShape 0)
 
-  pub other_calls : (w : Word) (field : ℕ → Text) → is_open w ≡ false → (w ≡ Other → ⊥) → called b list w field ≡ out_of_shape
+  pub other_calls : (w : Word) (field : ℕ → Text) → is_open w ≡ false → called b list w field ≡ out_of_shape
   unfolding called join_step prepare_step fulfil_step abort_step time_step
-  other_calls Open field e n = absurd (false≢true (sym e))
-  other_calls Join field e n = rw shapeless
-  other_calls Prepare field e n = rw shapeless
-  other_calls Fulfil field e n = rw shapeless
-  other_calls Abort field e n = rw shapeless
-  other_calls Time field e n = rw shapeless
-  other_calls Other field e n = absurd (n refl)
+  other_calls Open field e = absurd (false≢true (sym e))
+  other_calls Join field e = rw shapeless
+  other_calls Prepare field e = rw shapeless
+  other_calls Fulfil field e = rw shapeless
+  other_calls Abort field e = rw shapeless
+  other_calls Time field e = rw shapeless
 
   none_done : (w : Word) (field : ℕ → Text) → is_open w ≡ false → is_done (called b list w field).outcome.answer ≡ false
   unfolding called join_step prepare_step fulfil_step abort_step time_step
@@ -104,24 +114,26 @@ module _ (b : Book) (list : List ℕ) (never : b.head ≡ never_opened) where
   none_done Fulfil field e = rw shapeless
   none_done Abort field e = rw shapeless
   none_done Time field e = rw shapeless
-  none_done Other field e = refl
 
-  no_open : (ws : List Text) → is_open (word_of (get_or ws 0 [])) ≡ false → is_done (line_step b list ws).outcome.answer ≡ false
-  unfolding line_step
-  no_open [] e = refl
-  no_open (word ∷ fields) e =
-      by (eqb (length fields) (fields_in (word_of word))) (called b list (word_of word) (λ k. get_or (word ∷ fields) k []))
-      (none_done (word_of word) (λ k. get_or (word ∷ fields) k []) e)
+  none_done_on : (o : Option Word) (ws : List Text) → opened_by o ≡ false → is_done (call_on b list o ws).outcome.answer ≡ false
+  unfolding call_on
+  none_done_on None ws e = refl
+  none_done_on (Some w) ws e =
+      by (eqb (length ws) (fields_in w + 1)) (called b list w (λ k. get_or ws k [])) (none_done w (λ k. get_or ws k []) e)
     where
       by : (t : Bool) (call : LineOutcome) → is_done call.outcome.answer ≡ false →
           is_done (cond t call (no_call b list)).outcome.answer ≡ false
       by true call e = e
       by false call e = refl
 
+  no_open : (ws : List Text) → opens ws ≡ false → is_done (line_step b list ws).outcome.answer ≡ false
+  unfolding line_step
+  no_open [] e = refl
+  no_open (word ∷ fields) e = none_done_on (word_of word) (word ∷ fields) e
+
   -- and every line but an accepted OPEN leaves the book as it is, never opened
-  pub stays : (ws : List Text) → is_open (word_of (get_or ws 0 [])) && is_done (line_step b list ws).outcome.answer ≡ false →
-      Keeps b list (line_step b list ws)
-  stays ws e = refused_keeps b list ws (by (is_open (word_of (get_or ws 0 []))) (no_open ws) e)
+  pub stays : (ws : List Text) → opens ws && is_done (line_step b list ws).outcome.answer ≡ false → Keeps b list (line_step b list ws)
+  stays ws e = refused_keeps b list ws (by (opens ws) (no_open ws) e)
     where
       by : (t : Bool) → (t ≡ false → is_done (line_step b list ws).outcome.answer ≡ false) →
           t && is_done (line_step b list ws).outcome.answer ≡ false → is_done (line_step b list ws).outcome.answer ≡ false

@@ -1,5 +1,5 @@
 -- What a line answers and leaves: the call that its word names, on the fields that follow.
-use Rattle.std.specs.Prelude.{ℕ, cond, List, [], ◌∷◌, eqb, pos, length, get_or}
+use Rattle.std.specs.Prelude.{ℕ, ◌+◌, cond, List, [], ◌∷◌, Option, Some, None, eqb, pos, length, get_or}
 use Rattle.octets.specs.Parts.{zeros}
 use Rattle.account.specs.declared.Head.{Head}
 use Rattle.rules.specs.declared.Answer.TheVariants.{NotInForm}
@@ -15,7 +15,7 @@ use Rattle.abort.specs.Effect.{abort_step}
 use Rattle.time.specs.Effect.{TimeOutcome, time_step}
 use Rattle.desk.specs.declared.Reply.{Reply}
 use Rattle.desk.specs.declared.words.Word.{Word}
-use Rattle.desk.specs.declared.words.Word.TheVariants.{Open, Join, Prepare, Fulfil, Abort, Time, Other}
+use Rattle.desk.specs.declared.words.Word.TheVariants.{Open, Join, Prepare, Fulfil, Abort, Time}
 use Rattle.desk.specs.Words.{word_of, fields_in}
 
 -- the outcome of the call, the lent list, and how many of its numbers are printed
@@ -56,15 +56,17 @@ called b list Prepare field = beside list (prepare_step b (prepare_text field))
 called b list Fulfil field = beside list (fulfil_step b (field 1) (field 2) (field 3))
 called b list Abort field = beside list (abort_step b (field 1) (field 2) (field 3))
 called b list Time field = timed (time_step b list (field 1))
-called b list Other field = no_call b list
+
+-- the call that the first word names, if as many fields follow as it has
+unfoldable pub call_on : Book → List ℕ → Option Word → List Text → LineOutcome
+call_on b list None words = no_call b list
+call_on b list (Some w) words =
+    cond (eqb (length words) (fields_in w + 1)) (called b list w (λ k. get_or words k [])) (no_call b list)
 
 -- the words of a line; a line that is not well built has none
 unfoldable pub line_step : Book → List ℕ → List Text → LineOutcome
 line_step b list [] = no_call b list
-line_step b list (word ∷ fields) =
-    cond (eqb (length fields) (fields_in (word_of word)))
-    (called b list (word_of word) (λ k. get_or (word ∷ fields) k []))
-    (no_call b list)
+line_step b list (word ∷ fields) = call_on b list (word_of word) (word ∷ fields)
 
 -- the head of a book that was never opened
 abbrev pub never_opened : Head

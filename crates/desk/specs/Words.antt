@@ -1,10 +1,10 @@
 -- The words that name a call, and how many fields each has (01, the example of "A program over the library").
-use Rattle.std.specs.Prelude.{ℕ, cond, List, [], ◌∷◌}
+use Rattle.std.specs.Prelude.{ℕ, cond, List, [], ◌∷◌, Option, Some, None}
 use Rattle.octets.specs.Ascii.{ascii}
 use Rattle.octets.specs.Parts.{same}
 use Rattle.rules.specs.Calls.{Text}
 use Rattle.desk.specs.declared.words.Word.{Word}
-use Rattle.desk.specs.declared.words.Word.TheVariants.{Open, Join, Prepare, Fulfil, Abort, Time, Other}
+use Rattle.desk.specs.declared.words.Word.TheVariants.{Open, Join, Prepare, Fulfil, Abort, Time}
 
 -- a word and the call that it names
 pub record Naming : Type 0 where
@@ -26,11 +26,11 @@ namings =
     ∷ (ascii "TIME" names Time)
     ∷ []
 
-abbrev pub named_in : List Naming → Text → Word
-named_in [] s = Other
-named_in (n ∷ ns) s = cond (same s n.text) n.word (named_in ns s)
+abbrev pub named_in : List Naming → Text → Option Word
+named_in [] s = None
+named_in (n ∷ ns) s = cond (same s n.text) (Some n.word) (named_in ns s)
 
-unfoldable pub word_of : Text → Word
+unfoldable pub word_of : Text → Option Word
 word_of s = named_in namings s
 
 abbrev pub fields_in : Word → ℕ
@@ -40,4 +40,3 @@ fields_in Prepare = 8
 fields_in Fulfil = 3
 fields_in Abort = 3
 fields_in Time = 1
-fields_in Other = 0

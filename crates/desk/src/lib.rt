@@ -15,8 +15,7 @@ ghost use Rattle.abort.specs.Effect.{abort_step};
 ghost use Rattle.time.specs.Effect.{time_step};
 ghost use Rattle.desk.specs.Desk.{prepare_text, called as called_on, line_step, never_opened, field_of, line_outcome};
 
-use account::{Account, Head, Position};
-use amount::Amount;
+use account::{BLANK, Head};
 use book::Answered;
 use rules::Answer;
 use words::Word;
@@ -30,29 +29,29 @@ pub struct Reply {
     pub head: Head,
 }
 
+// The reply of a call that has nothing to do with the list.
+impl From<Answered> for Reply {
+    ghost from_gives = { λ r q. q ≡ record { answer = r.answer; mark = r.mark; listed = 0; head = r.head } };
+
+    fn from(r: Answered) -> Reply {
+        Reply {
+            answer: r.answer,
+            mark: r.mark,
+            listed: 0,
+            head: r.head,
+        }
+    }
+}
+
 // The head of a book that was never opened: zeros, which is out of the shape.
+#[tactic(auto, unfolding(octets::specs::Parts::zeros))]
 pub fn never_opened() -> Head
     ensures { result ≡ never_opened }
 {
-    let name = [0u8; 32];
-    let none = Account {
-        name,
-        length: 0,
-        cap: Amount {
-            units: 0,
-            remainder: 0,
-        },
-        position: Position {
-            units: 0,
-            remainder: 0,
-        },
-    };
-    let accounts = [none; 32];
-    let currency = [0u8; 3];
     Head {
-        accounts,
+        accounts: [BLANK; 32],
         count: 0,
-        currency,
+        currency: [0; 3],
         time: 0,
         slots: 0,
         places: 0,
@@ -61,71 +60,15 @@ pub fn never_opened() -> Head
 }
 
 // A line that is no call.
-fn refused(h: Head) -> Reply
-    ensures { result ≡ record { answer = NotInForm; mark = 0; listed = 0; head = h } }
+fn refused(head: Head) -> Reply
+    ensures { result ≡ record { answer = NotInForm; mark = 0; listed = 0; head = head } }
 {
     Reply {
         answer: Answer::NotInForm,
         mark: 0,
         listed: 0,
-        head: h,
-    }
-}
-
-// A call that has nothing to do with the list.
-fn plain(r: Answered) -> Reply
-    ensures { result ≡ record { answer = r.answer; mark = r.mark; listed = 0; head = r.head } }
-{
-    let answer = r.answer;
-    let head = r.head;
-    Reply {
-        answer,
-        mark: r.mark,
-        listed: 0,
         head,
     }
-}
-
-// A time shows as many of the list's numbers as its mark says.
-fn timed(r: Answered) -> Reply
-    ensures { result ≡ record { answer = r.answer; mark = r.mark; listed = r.mark; head = r.head } }
-{
-    let answer = r.answer;
-    let head = r.head;
-    Reply {
-        answer,
-        mark: r.mark,
-        listed: r.mark,
-        head,
-    }
-}
-
-// OPEN currency time
-fn open_line(h: Head, opened: &mut [u8], ended: &mut [u8], line: &[u8]) -> Answered
-    ensures { outcome result opened.new ended.new
-        ≡ open_step (book_of h opened.old ended.old) (field_of line.now 1) (field_of line.now 2) }
-{
-    open_book::open_book(
-        h,
-        opened,
-        ended,
-        lines::piece(line, 1),
-        lines::piece(line, 2),
-    )
-}
-
-// JOIN name cap
-fn join_line(h: Head, opened: &[u8], ended: &[u8], line: &[u8]) -> Answered
-    ensures { outcome result opened.now ended.now
-        ≡ join_step (book_of h opened.now ended.now) (field_of line.now 1) (field_of line.now 2) }
-{
-    join::join(
-        h,
-        opened,
-        ended,
-        lines::piece(line, 1),
-        lines::piece(line, 2),
-    )
 }
 
 // PREPARE id payer payee currency amount condition expiration packet
@@ -146,45 +89,7 @@ fn prepare_line(h: Head, opened: &mut [u8], ended: &[u8], line: &[u8]) -> Answer
     )
 }
 
-// FULFIL sender id fulfilment
-fn fulfil_line(h: Head, opened: &mut [u8], ended: &mut [u8], line: &[u8]) -> Answered
-    ensures { outcome result opened.new ended.new ≡ fulfil_step (book_of h opened.old ended.old)
-        (field_of line.now 1) (field_of line.now 2) (field_of line.now 3) }
-{
-    fulfil::fulfil(
-        h,
-        opened,
-        ended,
-        lines::piece(line, 1),
-        lines::piece(line, 2),
-        lines::piece(line, 3),
-    )
-}
-
-// ABORT sender id code
-fn abort_line(h: Head, opened: &mut [u8], ended: &mut [u8], line: &[u8]) -> Answered
-    ensures { outcome result opened.new ended.new ≡ abort_step (book_of h opened.old ended.old)
-        (field_of line.now 1) (field_of line.now 2) (field_of line.now 3) }
-{
-    abort::abort(
-        h,
-        opened,
-        ended,
-        lines::piece(line, 1),
-        lines::piece(line, 2),
-        lines::piece(line, 3),
-    )
-}
-
-// TIME time
-fn time_line(h: Head, opened: &mut [u8], ended: &mut [u8], list: &mut [u8], line: &[u8]) -> Answered
-    ensures { record { outcome = outcome result opened.new ended.new; list = list.new }
-        ≡ time_step (book_of h opened.old ended.old) list.old (field_of line.now 1) }
-{
-    time::time(h, opened, ended, list, lines::piece(line, 1))
-}
-
-// The call that the word names, on the fields of the line.
+// The call that the word names, on the fields of the line. Head, books and list come one by one, as the seven calls take them.
 fn called(
     w: Word,
     h: Head,
@@ -196,15 +101,24 @@ fn called(
     ensures { line_outcome result opened.new ended.new list.new
         ≡ called_on (book_of h opened.old ended.old) list.old w (field_of line.now) }
 {
-    match w {
-        Word::Open => plain(open_line(h, opened, ended, line)),
-        Word::Join => plain(join_line(h, opened, ended, line)),
-        Word::Prepare => plain(prepare_line(h, opened, ended, line)),
-        Word::Fulfil => plain(fulfil_line(h, opened, ended, line)),
-        Word::Abort => plain(abort_line(h, opened, ended, line)),
-        Word::Time => timed(time_line(h, opened, ended, list, line)),
-        Word::Other => refused(h),
-    }
+    let field = |k| lines::piece(line, k);
+    // The words are closed, and each call has its own fields: one match, and no trait of calls.
+    let answered = match w {
+        Word::Open => open_book::open_book(h, opened, ended, field(1), field(2)),
+        Word::Join => join::join(h, opened, ended, field(1), field(2)),
+        Word::Prepare => prepare_line(h, opened, ended, line),
+        Word::Fulfil => fulfil::fulfil(h, opened, ended, field(1), field(2), field(3)),
+        Word::Abort => abort::abort(h, opened, ended, field(1), field(2), field(3)),
+        // A time shows as many of the list's numbers as its mark says.
+        Word::Time => {
+            let r = time::time(h, opened, ended, list, field(1));
+            return Reply {
+                listed: r.mark,
+                ..Reply::from(r)
+            };
+        }
+    };
+    Reply::from(answered)
 }
 
 // A line, its bytes without the newline. One that is not a word and its fields answers 1 and changes nothing.
@@ -212,8 +126,10 @@ pub fn reply_to(h: Head, opened: &mut [u8], ended: &mut [u8], list: &mut [u8], l
     ensures { line_outcome result opened.new ended.new list.new
         ≡ line_step (book_of h opened.old ended.old) list.old (words_of line.now) }
 {
-    let word = words::word_named(lines::piece(line, 0));
-    let fields = words::fields_in(word);
+    let Some(word) = Word::named(lines::piece(line, 0)) else {
+        return refused(h);
+    };
+    let fields = word.fields();
     if lines::count(line) != fields + 1 {
         return refused(h);
     }

@@ -11,45 +11,44 @@ pub enum Word {
     Fulfil,
     Abort,
     Time,
-    Other,
 }
 
-#[tactic(auto, unfolding(crate::specs::Words::word_of))]
-pub(crate) fn word_named(s: &[u8]) -> Word
-    ensures { result ≡ word_of s.now }
-{
-    if octets::same(s, b"OPEN") {
-        return Word::Open;
+impl Word {
+    #[tactic(auto, unfolding(crate::specs::Words::word_of))]
+    pub(crate) fn named(s: &[u8]) -> Option<Word>
+        ensures { result ≡ word_of s.now }
+    {
+        // A test for each, in turn: a match on the six texts has a case for each byte at which another may differ.
+        if octets::same(s, b"OPEN") {
+            return Some(Word::Open);
+        }
+        if octets::same(s, b"JOIN") {
+            return Some(Word::Join);
+        }
+        if octets::same(s, b"PREPARE") {
+            return Some(Word::Prepare);
+        }
+        if octets::same(s, b"FULFIL") {
+            return Some(Word::Fulfil);
+        }
+        if octets::same(s, b"ABORT") {
+            return Some(Word::Abort);
+        }
+        if octets::same(s, b"TIME") {
+            return Some(Word::Time);
+        }
+        None
     }
-    if octets::same(s, b"JOIN") {
-        return Word::Join;
-    }
-    if octets::same(s, b"PREPARE") {
-        return Word::Prepare;
-    }
-    if octets::same(s, b"FULFIL") {
-        return Word::Fulfil;
-    }
-    if octets::same(s, b"ABORT") {
-        return Word::Abort;
-    }
-    if octets::same(s, b"TIME") {
-        return Word::Time;
-    }
-    Word::Other
-}
 
-// How many fields follow a word.
-pub(crate) fn fields_in(w: Word) -> usize
-    ensures { result ≡ fields_in w }
-{
-    match w {
-        Word::Open => 2,
-        Word::Join => 2,
-        Word::Prepare => 8,
-        Word::Fulfil => 3,
-        Word::Abort => 3,
-        Word::Time => 1,
-        Word::Other => 0,
+    // How many fields follow a word.
+    pub(crate) fn fields(self) -> usize
+        ensures { result ≡ fields_in self }
+    {
+        match self {
+            Word::Open | Word::Join => 2,
+            Word::Prepare => 8,
+            Word::Fulfil | Word::Abort => 3,
+            Word::Time => 1,
+        }
     }
 }

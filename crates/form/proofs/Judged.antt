@@ -15,8 +15,7 @@ use Rattle.octets.proofs.Lists.{default}
 use Rattle.octets.proofs.Computed.{both, both_left, both_right, every, every_at}
 use Rattle.form.specs.Regex.{Re, none, empty, range, seq, alt, upto, alive, nullable, deriv, is_none, judge_from, judge}
 use Rattle.form.specs.Machine.{entry, machine}
-use Rattle.form.specs.declared.Verdict.{Verdict}
-use Rattle.form.specs.declared.Verdict.TheVariants.{Fits, Stops}
+use Rattle.form.specs.Verdict.{Verdict, of_form, stops_at}
 use Rattle.form.proofs.Same.{same, same-eq}
 use Rattle.form.proofs.Steps.{left, is_true}
 
@@ -40,7 +39,7 @@ rows class rs (r ∷ more) next = both (row class rs r next) (rows class rs more
 abbrev pub goes : Re → List ℕ → List ℕ → List (List ℕ) → Bool
 goes r class next words = both (eqb (length class) 256) (rows class (map (left r) words) (map (left r) words) next)
 
-end_law : (x y : Bool) (n : ℕ) → T (cond x (not y) y) → cond x (Stops n) Fits ≡ cond y Fits (Stops n)
+end_law : (x y : Bool) (n : ℕ) → T (cond x (not y) y) → cond x (stops_at n) of_form ≡ cond y of_form (stops_at n)
 end_law true true n t = absurd t
 end_law true false n t = refl
 end_law false true n t = refl
@@ -57,7 +56,7 @@ none_dead (upto n r) t = absurd t
 step_law : (x : Bool) (rs : List Re) (d : Re) (t n : ℕ) (m : Verdict) (cs : List ℕ) →
     T (cond x (is_none d) (both (ltb t (length rs)) (both (same d (get_or rs t none)) (alive d)))) →
     (t < length rs → m ≡ judge_from (get_or rs t none) (suc n) cs) →
-    cond x (Stops n) m ≡ cond (alive d) (judge_from d (suc n) cs) (Stops n)
+    cond x (stops_at n) m ≡ cond (alive d) (judge_from d (suc n) cs) (stops_at n)
 step_law true rs d t n m cs h k = simp (none_dead d h)
 step_law false rs d t n m cs h k =
     let a = both_left (ltb t (length rs)) (both (same d (get_or rs t none)) (alive d)) h in
@@ -112,25 +111,27 @@ entry_past next q k h = sym (get_or-drop (q * 32) next k 255 ∙ get_or-eq_defau
 -- what the loops step by: the verdict on the bytes to come is the verdict on the whole, and the entry t decides
 module _ (class next s : List ℕ) (i q t : ℕ) (whole : Verdict) (inv : machine class next i q (drop i s) ≡ whole) where
   module _ (h : i < length s) (e : t ≡ entry next q (get_or class (get_or s i 0) 0)) where
-    turn : machine class next i q (drop i s) ≡ cond (eqb t 255) (Stops i) (machine class next (i + 1) t (drop (i + 1) s))
+    turn : machine class next i q (drop i s) ≡ cond (eqb t 255) (stops_at i) (machine class next (i + 1) t (drop (i + 1) s))
     unfolding machine
     turn = rw (drop-cons s i 0 h, add-one, e)
 
-    pub stop_at : t ≡ 255 → Stops i ≡ whole
+    pub stop_at : t ≡ 255 → stops_at i ≡ whole
     stop_at f = sym (turn ∙ simp (eq-eqb t 255 f)) ∙ inv
 
     pub go_on : (t ≡ 255 → ⊥) → machine class next (i + 1) t (drop (i + 1) s) ≡ whole
     go_on f = sym (turn ∙ simp (ne_eqb t 255 f)) ∙ inv
 
   module _ (h : i ≤ length s) (k : length s ≤ i) (e : t ≡ entry next q 0) where
-    ends : machine class next i q (drop i s) ≡ cond (eqb t 255) (Stops i) Fits
+    ends : machine class next i q (drop i s) ≡ cond (eqb t 255) (stops_at i) of_form
     unfolding machine
     ends =
         let l : i ≡ length s = omega arith in
         ap (λ (z : List ℕ). machine class next i q z) (ap (λ (x : ℕ). drop x s) l ∙ drop-length s) ∙ rw e refl
 
-    pub stop_end : t ≡ 255 → Stops i ≡ whole
-    stop_end f = sym (ends ∙ simp (eq-eqb t 255 f)) ∙ inv
+    pub stop_end : t ≡ 255 → stops_at (length s) ≡ whole
+    stop_end f =
+        let l : i ≡ length s = omega arith in
+        ap (λ (n : ℕ). stops_at n) (sym l) ∙ sym (ends ∙ simp (eq-eqb t 255 f)) ∙ inv
 
-    pub fit-end : (t ≡ 255 → ⊥) → Fits ≡ whole
+    pub fit-end : (t ≡ 255 → ⊥) → of_form ≡ whole
     fit-end f = sym (ends ∙ simp (ne_eqb t 255 f)) ∙ inv

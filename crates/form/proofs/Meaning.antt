@@ -1,4 +1,4 @@
--- What `judge` says is the plain meaning: `Fits` exactly of the texts that match, and `Stops n` where no text of the form goes on.
+-- What `judge` says is the plain meaning: `Ok` exactly of the texts that match, and an `Err` at the offset where no text of the form goes on.
 use mathlib.Core.Path.{◌≡◌, refl, sym, ap, subst, ◌∙◌}
 use mathlib.Core.Bool.{Bool, true, false, cond, ◌&&◌, ◌||◌}
 use mathlib.Core.List.{List, [], ◌∷◌, ◌++◌}
@@ -28,7 +28,8 @@ use Rattle.form.specs.Regex.{
 }
 use Rattle.form.specs.Listings.{amount_form, id_form, date_time_form, condition_form, packet_form, code_form, name_form, currency_form}
 use Rattle.form.specs.Matches.{Matches, nothing, one, joined, left, right, stop, again, StopsInside, StopsShort}
-use Rattle.form.specs.declared.Verdict.TheVariants.{Fits, Stops}
+use Rattle.std.specs.Prelude.{Ok, Err}
+use Rattle.form.specs.Verdict.{Verdict, of_form, stops_at}
 
 -- lists and tests
 empty_cons : {A : Type 0} {c : ℕ} {s : List ℕ} → [] ≡ c ∷ s → A
@@ -219,41 +220,45 @@ deriv-from c (upto zero r) s m = none-none m refl
 deriv-from c (upto (suc n) r) s m = upto_deriv c n r (deriv-from c r) (seq_from (deriv c r) (upto n r) m)
 
 -- the verdict, from any place on
-fits_to : (r : Re) (n : ℕ) (s : List ℕ) → Matches r s → judge_from r n s ≡ Fits
+fits_to : (r : Re) (n : ℕ) (s : List ℕ) → Matches r s → judge_from r n s ≡ of_form
 fits_to r n [] m = rw (nullable_to m refl)
 fits_to r n (c ∷ s) m =
     let d = deriv_to m c s refl in
     rw (alive_to d) (fits_to (deriv c r) (suc n) s d)
 
-pub stops-fits : {A : Type 0} {n : ℕ} → Stops n ≡ Fits → A
+pub stops-fits : {A : Type 0} {n : ℕ} → stops_at n ≡ of_form → A
 stops-fits e = absurd (let z : ◌≡◌ {A = ℕ} 0 1 = cc in omega arith)
 
-fits-from : (r : Re) (n : ℕ) (s : List ℕ) → judge_from r n s ≡ Fits → Matches r s
+fits-from : (r : Re) (n : ℕ) (s : List ℕ) → judge_from r n s ≡ of_form → Matches r s
 fits-from r n [] e = go (nullable r) refl e
   where
-    go : (x : Bool) → nullable r ≡ x → cond x Fits (Stops n) ≡ Fits → Matches r []
+    go : (x : Bool) → nullable r ≡ x → cond x of_form (stops_at n) ≡ of_form → Matches r []
     go true f h = nullable-from r f
     go false f h = stops-fits h
 fits-from r n (c ∷ s) e = go (alive (deriv c r)) e (fits-from (deriv c r) (suc n) s)
   where
-    go : (x : Bool) → cond x (judge_from (deriv c r) (suc n) s) (Stops n) ≡ Fits → (judge_from (deriv c r) (suc n) s ≡ Fits → Matches
+    go : (x : Bool) → cond x (judge_from (deriv c r) (suc n) s) (stops_at n) ≡ of_form → (judge_from (deriv c r) (suc n) s ≡ of_form → Matches
         (deriv c r) s) →
         Matches r (c ∷ s)
     go true h k = deriv-from c r s (k h)
     go false h k = stops-fits h
 
--- `judge` says Fits exactly of the texts that match
-pub fits : (r : Re) (s : List ℕ) → (judge r s ≡ Fits) ↔ Matches r s
+-- `judge` says Ok exactly of the texts that match
+pub fits : (r : Re) (s : List ℕ) → (judge r s ≡ of_form) ↔ Matches r s
 fits r s = (fits-from r 0 s, fits_to r 0 s)
 
 -- where the verdict stops, m bytes on
 abbrev Stopped : Re → List ℕ → ℕ → ℕ → Type 0
 Stopped r s m n = (k : ℕ) × (n ≡ m + k) × (StopsInside r s k ⊎ StopsShort r s k)
 
-stop_number : {m n : ℕ} → Stops m ≡ Stops n → n ≡ m + 0
-stop_number {m} {n} e = let f : m ≡ n = cc in omega arith
+abbrev offset_of : Verdict → ℕ
+offset_of (Ok u) = 0
+offset_of (Err e) = e.at
 
-fits-stops : {A : Type 0} {n : ℕ} → Fits ≡ Stops n → A
+stop_number : {m n : ℕ} → stops_at {A = Unit {0}} m ≡ stops_at n → n ≡ m + 0
+stop_number {m} {n} e = let f : m ≡ n = ap offset_of e in omega arith
+
+fits-stops : {A : Type 0} {n : ℕ} → of_form ≡ stops_at n → A
 fits-stops e = stops-fits (sym e)
 
 matches_at : {r : Re} {s t : List ℕ} → s ≡ t → Matches r s → Matches r t
@@ -293,10 +298,10 @@ short_after r c s k i =
           (c ∷ x.0, (x.1.0, ap (λ (z : List ℕ). c ∷ z) x.1.1), omega (arith, x.2), deriv-from c r x.0 x.3);
     }
 
-stops-from : (r : Re) → alive r ≡ true → (m : ℕ) (s : List ℕ) (n : ℕ) → judge_from r m s ≡ Stops n → Stopped r s m n
+stops-from : (r : Re) → alive r ≡ true → (m : ℕ) (s : List ℕ) (n : ℕ) → judge_from r m s ≡ stops_at n → Stopped r s m n
 stops-from r l m [] n e = go (nullable r) refl e
   where
-    go : (x : Bool) → nullable r ≡ x → cond x Fits (Stops m) ≡ Stops n → Stopped r [] m n
+    go : (x : Bool) → nullable r ≡ x → cond x of_form (stops_at m) ≡ stops_at n → Stopped r [] m n
     go true f h = fits-stops h
     go false f h = let x = alive-from r l in (0, stop_number h, inr (too_short r f x.0 x.1))
 stops-from r l m (c ∷ s) n e = go (alive (deriv c r)) refl e (λ f. stops-from (deriv c r) f (suc m) s n)
@@ -304,13 +309,13 @@ stops-from r l m (c ∷ s) n e = go (alive (deriv c r)) refl e (λ f. stops-from
     after : (k : ℕ) → n ≡ suc m + k → (StopsInside (deriv c r) s k ⊎ StopsShort (deriv c r) s k) → Stopped r (c ∷ s) m n
     after k f w = (suc k, omega arith, ⊎_elim (λ i. inl (inside-after r c s k i)) (λ i. inr (short_after r c s k i)) w)
 
-    go : (x : Bool) → alive (deriv c r) ≡ x → cond x (judge_from (deriv c r) (suc m) s) (Stops m) ≡ Stops n →
-        (alive (deriv c r) ≡ true → judge_from (deriv c r) (suc m) s ≡ Stops n → Stopped (deriv c r) s (suc m) n) → Stopped r (c ∷ s) m n
+    go : (x : Bool) → alive (deriv c r) ≡ x → cond x (judge_from (deriv c r) (suc m) s) (stops_at m) ≡ stops_at n →
+        (alive (deriv c r) ≡ true → judge_from (deriv c r) (suc m) s ≡ stops_at n → Stopped (deriv c r) s (suc m) n) → Stopped r (c ∷ s) m n
     go true f h k = let x = k f h in after x.0 x.1 x.2
     go false f h k = let x = alive-from r l in (0, stop_number h, inl (dead_here r c s f x.0 x.1))
 
--- `judge` says Stops n where no text of the form goes on after n bytes; the form must have some text at all
-pub stops : (r : Re) → alive r ≡ true → (s : List ℕ) (n : ℕ) → judge r s ≡ Stops n → StopsInside r s n ⊎ StopsShort r s n
+-- `judge` stops at n where no text of the form goes on after n bytes; the form must have some text at all
+pub stops : (r : Re) → alive r ≡ true → (s : List ℕ) (n : ℕ) → judge r s ≡ stops_at n → StopsInside r s n ⊎ StopsShort r s n
 stops r l s n e =
     let x = stops-from r l 0 s n e in
     let f : x.0 ≡ n = omega (arith, x.1) in

@@ -12,8 +12,7 @@ use Rattle.octets.proofs.Computed.{both, both_left, both_right, below, below_at}
 use Rattle.octets.proofs.Lists.{bytes-append}
 use Rattle.form.specs.Regex.{Re, none, empty, range, seq, alt, upto, nullable, alive, deriv, judge_from, judge}
 use Rattle.form.specs.Matches.{Matches, nothing, one, joined, left, right, stop, again}
-use Rattle.form.specs.declared.Verdict.{Verdict}
-use Rattle.form.specs.declared.Verdict.TheVariants.{Fits, Stops}
+use Rattle.form.specs.Verdict.{Verdict, of_form, stops_at}
 use Rattle.form.proofs.Same.{same, same-eq}
 use Rattle.form.proofs.Meaning.{fits, stops-fits}
 use Rattle.form.proofs.Steps as steps
@@ -65,11 +64,11 @@ pass : (p : ℕ → ℕ → Bool) (q c : ℕ) (d next : Re) (b : Bool) → b ≡
 pass p q c d next true e t = t
 pass p q c d next false e t = absurd (let z : ◌≡◌ {A = ℕ} 0 1 = cc in omega arith)
 
-fits-alive : (b : Bool) (v : Verdict) (n : ℕ) → cond b v (Stops n) ≡ Fits → (b ≡ true) × (v ≡ Fits)
+fits-alive : (b : Bool) (v : Verdict) (n : ℕ) → cond b v (stops_at n) ≡ of_form → (b ≡ true) × (v ≡ of_form)
 fits-alive true v n e = (refl, e)
 fits-alive false v n e = stops-fits e
 
-fits_null : (b : Bool) (n : ℕ) → cond b Fits (Stops n) ≡ Fits → b ≡ true
+fits_null : (b : Bool) (n : ℕ) → cond b of_form (stops_at n) ≡ of_form → b ≡ true
 fits_null true n e = refl
 fits_null false n e = stops-fits e
 
@@ -80,7 +79,7 @@ placed-cons p q m c cs t l = record { long = ap suc l.long; at = each }
     each zero h = subst (λ (k : ℕ). T (p k c)) (sym (add-zero q)) t
     each (suc i) h = subst (λ (k : ℕ). T (p k (get_or cs i 0))) (suc-add q i ∙ sym (add-suc q i)) (l.at i (omega arith))
 
-place_law : (p : ℕ → ℕ → Bool) (q n : ℕ) (r : Re) (rs : List Re) → T (placed p q r rs) → (s : List ℕ) → Bytes s → judge_from r n s ≡ Fits →
+place_law : (p : ℕ → ℕ → Bool) (q n : ℕ) (r : Re) (rs : List Re) → T (placed p q r rs) → (s : List ℕ) → Bytes s → judge_from r n s ≡ of_form →
     Placed p q (length rs) s
 place_law p q n r [] t [] b e = record { long = refl; at = λ i h. absurd (omega arith) }
 place_law p q n r [] t (c ∷ cs) b e =
@@ -101,11 +100,11 @@ place_law p q n r (next ∷ more) t (c ∷ cs) b e =
     let d = same-eq (deriv c r) next (both_right (p q c) (same (deriv c r) next) g) in
     placed-cons p q (length more) c cs (both_left (p q c) (same (deriv c r) next) g)
     (place_law p (suc q) (suc n) next more (both_right (place_row p q r next) (placed p (suc q) next more) t) cs b.1
-    (subst (λ (z : Re). judge_from z (suc n) cs ≡ Fits) d f.1))
+    (subst (λ (z : Re). judge_from z (suc n) cs ≡ of_form) d f.1))
 
 -- where the test over all places and bytes passes, a text of the form has its length and at each place what the rule allows
 pub places : (p : ℕ → ℕ → Bool) (r : Re) (words : List (List ℕ)) → T (both (of_bytes r) (placed p 0 r (after r words))) → (s : List ℕ) →
-    judge r s ≡ Fits → Placed p 0 (length (after r words)) s
+    judge r s ≡ of_form → Placed p 0 (length (after r words)) s
 places p r words t s e =
     place_law p 0 0 r (after r words) (both_right (of_bytes r) (placed p 0 r (after r words)) t) s
     (matched_bytes ((fits r s).0 e) (both_left (of_bytes r) (placed p 0 r (after r words)) t)) e

@@ -4,7 +4,7 @@ use mathlib.Core.Path.{◌≡◌, sym, ◌∙◌}
 use mathlib.Core.List.{List}
 use Prim.Native.Nat.{ℕ}
 use Rattle.form.specs.Writing.{buffer_after}
-use Rattle.form.specs.declared.Written.{Written}
+use Rattle.form.specs.Writing.{Written}
 
 pub one_answer : {A : Type 0} (defined r r' : A) → r ≡ defined → r' ≡ defined → r ≡ r'
 one_answer defined r r' e f = e ∙ sym f

@@ -1,3 +1,4 @@
+pub mod Verdict
 pub mod Regex
 pub mod Matches
 pub mod Listings

@@ -2,8 +2,7 @@
 -- text of the form goes on; for a text that stops too soon, its length.
 use Rattle.std.specs.Prelude.{ℕ, zero, suc, List, [], ◌∷◌, Bool, true, false, cond, ◌&&◌, ◌||◌, leb}
 use Prim.Native.Char.{Char, code}
-use Rattle.form.specs.declared.Verdict.{Verdict}
-use Rattle.form.specs.declared.Verdict.TheVariants.{Fits, Stops}
+use Rattle.form.specs.Verdict.{Verdict, of_form, stops_at}
 
 pub data Re : Type 0 where
   none : Re
@@ -88,8 +87,8 @@ deriv c (upto (suc n) r) = seq' (deriv c r) (upto n r)
 
 -- r is left of the form after n bytes, and these bytes are to come
 abbrev pub judge_from : Re → ℕ → List ℕ → Verdict
-judge_from r n [] = cond (nullable r) Fits (Stops n)
-judge_from r n (c ∷ cs) = let onwards = judge_from (deriv c r) (suc n) cs in cond (alive (deriv c r)) onwards (Stops n)
+judge_from r n [] = cond (nullable r) of_form (stops_at n)
+judge_from r n (c ∷ cs) = let onwards = judge_from (deriv c r) (suc n) cs in cond (alive (deriv c r)) onwards (stops_at n)
 
 abbrev pub judge : Re → List ℕ → Verdict
 judge r s = judge_from r 0 s

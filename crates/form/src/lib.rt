@@ -10,23 +10,21 @@ ghost use Rattle.form.specs.Regex.{judge};
 ghost use Rattle.form.specs.Listings.{date_time_form, id_form};
 ghost use Rattle.form.specs.Machine.{entry, machine};
 
-// What a form says of a text: it is of the form, or no text of the form goes on at this offset (the length, where the text stops too soon).
-#[derive(Clone, Copy)]
-pub enum Verdict {
-    Fits,
-    Stops(usize),
+/// Why a text was not read: no text of the form goes on at this offset (the length, where the text stops too soon).
+#[derive(Clone, Copy, Debug, PartialEq, Eq)]
+pub struct Stop {
+    pub at: usize,
 }
 
-// What a writer answers: the length of the text it wrote, or why it wrote nothing.
-#[derive(Clone, Copy)]
-pub enum Written {
-    Length(usize),
+/// Why a writer wrote nothing.
+#[derive(Clone, Copy, Debug, PartialEq, Eq)]
+pub enum Unwritten {
     NotInForm,
     OutsideYears,
     NoRoom,
 }
 
-// What stands in the row of the state q for the class k; past the table nothing goes on.
+// What stands in the row of the state q for the class k; past the table nothing goes on. The tables have a byte for each place: 255 is no state.
 fn look(next: &[u8], q: usize, k: u8) -> u8
     ensures { result ≡ entry next.now q k }
 {
@@ -34,7 +32,7 @@ fn look(next: &[u8], q: usize, k: u8) -> u8
         return 255;
     }
     let row = q * 32;
-    let column = k as usize;
+    let column = usize::from(k);
     if column < next.len() - row {
         return next[row + column];
     }
@@ -45,41 +43,36 @@ fn look(next: &[u8], q: usize, k: u8) -> u8
 fn step(class: &[u8; 256], next: &[u8], q: usize, b: u8) -> u8
     ensures { result ≡ entry next.now q (get_or class.now b 0) }
 {
-    let i = b as usize;
-    let k = class[i];
-    look(next, q, k)
+    look(next, q, class[usize::from(b)])
 }
 
 // Goes from state to state.
-fn run(class: &[u8; 256], next: &[u8], s: &[u8]) -> Verdict
+fn run(class: &[u8; 256], next: &[u8], s: &[u8]) -> Result<(), Stop>
     ensures { (result ≡ machine class.now next.now 0 0 s.now) × Bytes s.now }
 {
     let mut q: usize = 0;
-    let mut i: usize = 0;
-    while i < s.len() {
-        let t = step(class, next, q, s[i]);
+    for (i, b) in s.iter().enumerate() {
+        let t = step(class, next, q, *b);
         if t == 255 {
-            return Verdict::Stops(i);
+            return Err(Stop { at: i });
         }
-        q = t as usize;
-        i += 1;
+        q = usize::from(t);
     }
-    let end = look(next, q, 0);
-    if end == 255 {
-        return Verdict::Stops(i);
+    if look(next, q, 0) == 255 {
+        return Err(Stop { at: s.len() });
     }
-    Verdict::Fits
+    Ok(())
 }
 
 // 001's listing 12.
-pub fn datetime_form(s: &[u8]) -> Verdict
+pub fn datetime_form(s: &[u8]) -> Result<(), Stop>
     ensures { result ≡ judge date_time_form s.now }
 {
     run(&tables::CLASS, &tables::DATETIME, s)
 }
 
 // 000's listing 26.
-pub fn id_form(s: &[u8]) -> Verdict
+pub fn id_form(s: &[u8]) -> Result<(), Stop>
     ensures { result ≡ judge id_form s.now }
 {
     run(&tables::CLASS, &tables::ID, s)

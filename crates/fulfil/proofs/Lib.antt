@@ -1,4 +1,3 @@
 pub mod States
 pub mod Texts
-pub mod Answers
 pub mod Theorems

@@ -1,16 +1,11 @@
 -- What the inner functions of a fulfil go by; no public promise cites these.
-use Rattle.std.specs.Prelude.{ℕ, ◌≡◌, List}
-use Rattle.record.specs.Layout.{Row, get, num, ended_row, payee_field, condition_field}
+use Rattle.std.specs.Prelude.{ℕ, List}
+use Rattle.record.specs.Layout.{num, ended_row, payee_field}
 use Rattle.rules.specs.declared.Answer.{Answer}
-use Rattle.rules.specs.Calls.{Content}
 use Rattle.rules.specs.View.{Transfer}
 use Rattle.rules.specs.Rules.{fulfil_state}
-use Rattle.shape.specs.Reading.{Book, state_of}
+use Rattle.shape.specs.Reading.{Book}
 use Rattle.book.specs.Ending.{ended_at}
-
--- the answer on a record: that of the rules for any content that has the record's condition
-abbrev pub AnswersOn : Row → List ℕ → Answer → Type 0
-AnswersOn r fulfilment a = (c : Content) → c.condition ≡ get condition_field r → a ≡ fulfil_state (state_of r) c fulfilment
 
 -- the answer by the state
 abbrev pub by_state : List ℕ → Transfer → Answer

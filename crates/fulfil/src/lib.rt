@@ -1,142 +1,61 @@
 // Fulfil: the payee shows the fulfilment, and the transfer is committed.
 #![tactic(auto)]
 
-ghost use Rattle.std.specs.Prelude.{◌≡◌, true, cond, length};
+ghost use Rattle.std.specs.Prelude.{◌≡◌, true, false, cond, List, ℕ, MatchResult};
 ghost use Rattle.octets.specs.Parts.{same as is_same};
+ghost use Rattle.uuid_text.specs.Id.{id_of};
 ghost use Rattle.record.specs.Layout.{get, condition_field};
-ghost use Rattle.record.specs.Rows.{row};
 ghost use Rattle.rules.specs.declared.Answer.TheVariants.{Done, NoMatch};
-ghost use Rattle.rules.specs.Calls.{condition_for};
-ghost use Rattle.shape.specs.Reading.{transfer_of, names_of};
-ghost use Rattle.shape.specs.Shape.{shape};
-ghost use Rattle.book.specs.Step.{book_of, outcome, slot_of};
-ghost use Rattle.book.specs.Inner.{judged_by, PayeeKnown, Decided, by_payee};
+ghost use Rattle.rules.specs.Calls.{fulfil as fulfil_call, in_form, condition_of, condition_for};
+ghost use Rattle.shape.specs.Reading.{transfer_of};
+ghost use Rattle.book.specs.Step.{book_of, outcome};
 ghost use Rattle.fulfil.specs.Effect.{fulfil_step};
-ghost use Rattle.fulfil.specs.Inner.{AnswersOn, by_state, committed_at};
+ghost use Rattle.fulfil.specs.Inner.{by_state};
 
 use account::Head;
-use book::{Answered, Decision, Place};
-use record::Ending;
+use book::Answered;
+use form::Stop;
+use record::{Ending, Row};
 use rules::Answer;
 
 // The condition is the fulfilment's SHA-256.
-fn matching(part: &[u8], fulfilment: [u8; 32]) -> Answer
-    requires { length part.now ≡ 160 }
-    ensures { result ≡ cond (is_same (condition_for fulfilment) (get condition_field part.now)) Done NoMatch }
+fn matching(row: &Row, fulfilment: [u8; 32]) -> Answer
+    ensures { result ≡ cond (is_same (condition_for fulfilment) (get condition_field row.now)) Done NoMatch }
 {
-    let hash = sha256::hash(&fulfilment);
-    if octets::same(&hash, &part[40..72]) {
-        return Answer::Done;
+    if sha256::hash(&fulfilment)[..] == row[40..72] {
+        Answer::Done
+    } else {
+        Answer::NoMatch
     }
-    Answer::NoMatch
 }
 
 // COMMITTED: 24 or 6. Expired: 7. Aborted by the payee: 13. RESERVED: 14, or 0.
-fn by_state(part: &[u8], fulfilment: [u8; 32]) -> Answer
-    requires { length part.now ≡ 160 }
-    ensures { AnswersOn part.now fulfilment result }
+fn by_state(row: &Row, fulfilment: [u8; 32]) -> Answer
+    ensures { (names : List (List ℕ)) → result ≡ by_state fulfilment (transfer_of names row.now) }
 {
-    if part[16] == 2 {
-        return matching(part, fulfilment);
-    }
-    if part[16] == 3 {
-        return book::resend(octets::same(&part[72..104], &fulfilment));
-    }
-    if part[19] == 2 {
-        return Answer::EndedAnotherWay;
-    }
-    Answer::Expired
-}
-
-// What is decided on record k of a book.
-fn on_record(
-    h: Head,
-    book: &[u8],
-    k: usize,
-    sender: &[u8],
-    fulfilment: [u8; 32],
-    slot: usize,
-) -> Decision
-    requires { PayeeKnown h book.now k }
-    ensures { result ≡ judged_by h (row book.now k) sender.now
-        (by_state fulfilment (transfer_of (names_of h) (row book.now k))) slot }
-{
-    let at = k * 160;
-    let end = at + 160;
-    let part = &book[at..end];
-    let answer = by_state(part, fulfilment);
-    book::judged(h, part, sender, answer, slot)
-}
-
-fn decide(
-    h: Head,
-    opened: &[u8],
-    ended: &[u8],
-    sender: &[u8],
-    id: [u8; 16],
-    fulfilment: [u8; 32],
-) -> Decision
-    requires { shape (book_of h opened.now ended.now) ≡ true }
-    ensures { Decided (book_of h opened.now ended.now) sender.now id (by_state fulfilment) result }
-{
-    let place = book::find(h, opened, ended, id);
-    match place {
-        Place::Opened(k) => on_record(h, opened, k, sender, fulfilment, k),
-        Place::Ended(k) => on_record(h, ended, k, sender, fulfilment, 0),
-        Place::Nowhere => book::decided(Answer::UnknownId, 0, 0),
+    match row[16] {
+        record::RESERVED => matching(row, fulfilment),
+        record::COMMITTED => book::resend(row[72..104] == fulfilment[..]),
+        _ if row[19] == record::BY_PAYEE => Answer::EndedAnotherWay,
+        _ => Answer::Expired,
     }
 }
 
-// Where it is 0 the record ends as committed by the fulfilment, and its payee's position falls.
-fn settle(
-    h: Head,
-    opened: &mut [u8],
-    ended: &mut [u8],
-    sender: &[u8],
-    id: [u8; 16],
-    fulfilment: [u8; 32],
-) -> Answered
-    requires { shape (book_of h opened.old ended.old) ≡ true }
-    ensures { outcome result opened.new ended.new
-        ≡ (let b = book_of h opened.old ended.old in
-        by_payee b sender.now id (by_state fulfilment) (committed_at b (slot_of b id) fulfilment)) }
+// The id and the fulfilment that the texts say, all three in form.
+#[tactic(auto, unfolding(uuid_text::specs::Id::read_id, base64url::specs::Condition::read_condition))]
+fn fields(sender: &[u8], id: &[u8], fulfilment: &[u8]) -> Result<([u8; 16], [u8; 32]), Stop>
+    ensures { MatchResult result
+        (λ v. (in_form (fulfil_call sender.now id.now fulfilment.now) ≡ true)
+        × (id_of id.now ≡ v.0) × (condition_of fulfilment.now ≡ v.1))
+        (λ _. in_form (fulfil_call sender.now id.now fulfilment.now) ≡ false) }
 {
-    let d = decide(h, opened, ended, sender, id, fulfilment);
-    let committed = Ending {
-        state: 3,
-        by: 1,
-        code: 0,
-        fulfilment,
-    };
-    book::carry_out(h, opened, ended, d, 18, committed)
+    tokens::read_name(sender)?;
+    let id = uuid_text::read_id(id)?;
+    let fulfilment = base64url::read_condition(fulfilment)?;
+    Ok((id, fulfilment))
 }
 
-// The call on a book of the shape.
-fn in_shape(
-    h: Head,
-    opened: &mut [u8],
-    ended: &mut [u8],
-    sender: &[u8],
-    id: &[u8],
-    fulfilment: &[u8],
-) -> Answered
-    requires { shape (book_of h opened.old ended.old) ≡ true }
-    ensures { outcome result opened.new ended.new ≡ fulfil_step (book_of h opened.old ended.old)
-        sender.now id.now fulfilment.now }
-{
-    let id_read = uuid_text::read_id(id);
-    let read = base64url::read_condition(fulfilment);
-    let id_verdict = id_read.verdict;
-    let verdict = read.verdict;
-    if !(book::fits(tokens::read_name(sender)) & book::fits(id_verdict) & book::fits(verdict)) {
-        return book::reply(h, Answer::NotInForm, 0);
-    }
-    let id_bytes = id_read.id;
-    let bytes = read.bytes;
-    settle(h, opened, ended, sender, id_bytes, bytes)
-}
-
-// Fulfil: 21, 1, 11, 12, then by the state; committed, the payee's position falls by the amount.
+/// Fulfil: 21, 1, 11, 12, then by the state; committed, the payee's position falls by the amount.
 pub fn fulfil(
     h: Head,
     opened: &mut [u8],
@@ -148,8 +67,15 @@ pub fn fulfil(
     ensures { outcome result opened.new ended.new ≡ fulfil_step (book_of h opened.old ended.old)
         sender.now id.now fulfilment.now }
 {
-    if shape::is_sound(h, opened, ended) {
-        return in_shape(h, opened, ended, sender, id, fulfilment);
+    if !shape::is_sound(h, opened, ended) {
+        return book::reply(h, Answer::OutOfShape, 0);
     }
-    book::reply(h, Answer::OutOfShape, 0)
+    let Ok(read) = fields(sender, id, fulfilment) else {
+        return book::reply(h, Answer::NotInForm, 0);
+    };
+    let (id, fulfilment) = read;
+    let rule = |row: &Row| by_state(row, fulfilment);
+    let d = book::decide(h, opened, ended, sender, id, rule);
+    let ending = Ending::committed(fulfilment);
+    book::carry_out(h, opened, ended, d, record::payee_of, ending)
 }

@@ -1,7 +1,9 @@
+pub mod Bytes
 pub mod Decoded
 pub mod Encoded
 pub mod Fields
 pub mod Pieces
+pub mod Places
 pub mod Same
 pub mod Stores
 pub mod Theorems

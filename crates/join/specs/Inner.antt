@@ -1,5 +1,5 @@
 -- What the inner functions go by, once the fields are read; no public promise cites these.
-use Rattle.std.specs.Prelude.{ℕ, ◌-◌, cond, List, [], ◌∷◌, ◌++◌, leb, ltb, pos, length}
+use Rattle.std.specs.Prelude.{ℕ, ◌-◌, cond, Result, Ok, Err, List, [], ◌∷◌, ◌++◌, leb, ltb, pos, length}
 use Rattle.octets.specs.Parts.{zeros}
 use Rattle.amount.specs.declared.Amount.{Amount}
 use Rattle.account.specs.declared.Account.{Account}
@@ -10,7 +10,9 @@ use Rattle.rules.specs.declared.Answer.{Answer}
 use Rattle.rules.specs.declared.Answer.TheVariants.{Done, CapTooHigh, NameHeld, AccountsFull}
 use Rattle.rules.specs.Answers.{is_done}
 use Rattle.rules.specs.Rules.{◌gives◌, first_of, highest_cap}
-use Rattle.book.specs.declared.Answered.{Answered}
+use Rattle.shape.specs.Reading.{Book}
+use Rattle.book.specs.Step.{Outcome, book_of}
+use Rattle.book.specs.Inner.{kept}
 use Rattle.join.specs.Effect.{with_account}
 
 abbrev pub name_in : List ℕ → List ℕ
@@ -27,9 +29,11 @@ decided h name cap = first_of (
     ∷ (leb 32 h.count gives AccountsFull)
     ∷ []) Done
 
-abbrev pub joined : Head → List ℕ → Amount → Answered
-joined h name cap = record {
-  answer = decided h name cap;
-  mark = 0;
-  head = cond (is_done (decided h name cap)) (with_account h (account_of name cap)) h;
-}
+-- the head with the account, or why there is none
+abbrev pub joined : Head → List ℕ → Amount → Result Head Answer
+joined h name cap = cond (is_done (decided h name cap)) (Ok (with_account h (account_of name cap))) (Err (decided h name cap))
+
+-- what is left: the book with that head, or the book as it was
+abbrev pub left_by : Book → Result Head Answer → Outcome
+left_by b (Ok h) = record { answer = Done; mark = 0; left = book_of h b.opened b.ended }
+left_by b (Err a) = kept b a 0

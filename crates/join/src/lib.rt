@@ -1,26 +1,33 @@
 // Join: an FSP gets an account.
 #![tactic(auto)]
 
-ghost use Rattle.std.specs.Prelude.{◌≡◌, ◌≤◌, ◌<◌, ltb, length};
+ghost use Rattle.std.specs.Prelude.{◌≡◌, ◌≤◌, ◌<◌, ◌&&◌, true, false, MatchResult, ltb, length};
+ghost use Rattle.form.specs.Listings.{name_form, amount_form};
+ghost use Rattle.amount.specs.Amount.{ten_thousandths, amount_of};
 ghost use Rattle.account.specs.Position.{worth};
 ghost use Rattle.account.specs.Head.{Named};
+ghost use Rattle.rules.specs.Calls.{is_of};
 ghost use Rattle.rules.specs.Rules.{highest_cap};
 ghost use Rattle.book.specs.Step.{book_of, outcome};
 ghost use Rattle.join.specs.Effect.{with_account, join_step};
-ghost use Rattle.join.specs.Inner.{name_in, account_of, decided, joined};
+ghost use Rattle.join.specs.Inner.{name_in, account_of, joined};
 
-use account::{Account, Head, Position};
-use amount::{Amount, AmountRead};
+use account::{Account, HIGHEST_CAP, Head, Position};
+use amount::Amount;
 use book::Answered;
+use form::Stop;
 use rules::Answer;
+
+// "The accounts travel with the head by value, at most 32".
+const MOST_ACCOUNTS: u8 = 32;
 
 // The name in its place: zeros stand after it.
 fn padded(name: &[u8]) -> [u8; 32]
     requires { length name.now ≤ 32 }
     ensures { result ≡ name_in name.now }
 {
-    let mut place = [0u8; 32];
-    octets::put(&mut place, 0, name);
+    let mut place = [0; 32];
+    place[..name.len()].copy_from_slice(name);
     place
 }
 
@@ -28,7 +35,7 @@ fn too_high(cap: Amount) -> bool
     requires { cap.remainder < 10000 }
     ensures { result ≡ ltb highest_cap (worth cap) }
 {
-    (100000000000000000 < cap.units) | ((cap.units == 100000000000000000) & (0 < cap.remainder))
+    cap > HIGHEST_CAP
 }
 
 // The head with one account more, its position 0.
@@ -36,50 +43,47 @@ fn with_account(h: Head, name: &[u8], cap: Amount) -> Head
     requires { (h.count < 32) × (length name.now ≤ 32) }
     ensures { result ≡ with_account h (account_of name.now cap) }
 {
-    let place = padded(name);
-    let length = (name.len() % 256) as u8;
-    let a = Account {
-        name: place,
-        length,
+    let mut next = h;
+    next.accounts[usize::from(h.count)] = Account {
+        name: padded(name),
+        length: name.len() as u8,
         cap,
         position: Position {
             units: 0,
             remainder: 0,
         },
     };
-    let mut next = h;
-    let k = h.count as usize;
-    next.accounts[k] = a;
-    next.count = h.count + 1;
+    next.count += 1;
     next
 }
 
-fn decide(h: Head, name: &[u8], cap: Amount) -> Answer
-    requires { Named h × (cap.remainder < 10000) }
-    ensures { result ≡ decided h name.now cap }
-{
-    if too_high(cap) {
-        return Answer::CapTooHigh;
-    }
-    let count = h.count as usize;
-    if account::place_of(h, name) < count {
-        return Answer::NameHeld;
-    }
-    if 32 <= count {
-        return Answer::AccountsFull;
-    }
-    Answer::Done
-}
-
-fn apply(h: Head, name: &[u8], cap: Amount) -> Answered
+// 19, 17, 18; else the head with the account.
+fn joined(h: Head, name: &[u8], cap: Amount) -> Result<Head, Answer>
     requires { Named h × (cap.remainder < 10000) × (length name.now ≤ 32) }
     ensures { result ≡ joined h name.now cap }
 {
-    let answer = decide(h, name, cap);
-    if rules::is_done(answer) {
-        return book::reply(with_account(h, name, cap), answer, 0);
+    if too_high(cap) {
+        return Err(Answer::CapTooHigh);
     }
-    book::reply(h, answer, 0)
+    if account::place_of(h, name).is_some() {
+        return Err(Answer::NameHeld);
+    }
+    if MOST_ACCOUNTS <= h.count {
+        return Err(Answer::AccountsFull);
+    }
+    Ok(with_account(h, name, cap))
+}
+
+// The cap, where both fields are in form.
+#[tactic(auto, unfolding(amount::specs::Amount::read_amount))]
+fn read_fields(name: &[u8], cap: &[u8]) -> Result<Amount, Stop>
+    ensures { let fit = is_of name_form name.now && is_of amount_form cap.now in
+        MatchResult result
+        (λ a. (fit ≡ true) × (a ≡ amount_of (ten_thousandths cap.now)))
+        (λ _. fit ≡ false) }
+{
+    tokens::read_name(name)?;
+    amount::read_amount(cap)
 }
 
 // Join: 21, 1, 19, 17, 18.
@@ -90,12 +94,11 @@ pub fn join(h: Head, opened: &[u8], ended: &[u8], name: &[u8], cap: &[u8]) -> An
     if !shape::is_sound(h, opened, ended) {
         return book::reply(h, Answer::OutOfShape, 0);
     }
-    if !book::fits(tokens::read_name(name)) {
+    let Ok(limit) = read_fields(name, cap) else {
         return book::reply(h, Answer::NotInForm, 0);
-    }
-    let read = amount::read_amount(cap);
-    match read {
-        AmountRead::Refused(_) => book::reply(h, Answer::NotInForm, 0),
-        AmountRead::Value(a) => apply(h, name, a),
+    };
+    match joined(h, name, limit) {
+        Ok(next) => book::reply(next, Answer::Done, 0),
+        Err(answer) => book::reply(h, answer, 0),
     }
 }

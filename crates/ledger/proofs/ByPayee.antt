@@ -20,6 +20,7 @@ use Rattle.rules.specs.Rules.{payee_rules}
 use Rattle.shape.specs.Reading.{Book, names_of, transfer_of, map_some, held_transfer}
 use Rattle.shape.specs.Sound.{Sound, SoundRecord}
 use Rattle.octets.proofs.Tests.{both}
+use Rattle.std.specs.Prelude.{Some}
 use Rattle.book.specs.declared.Place.TheVariants.{Opened}
 use Rattle.book.specs.Step.{slot_of, where_is}
 use Rattle.book.specs.Ending.{ended_at}
@@ -43,7 +44,7 @@ use Rattle.ledger.proofs.Ended.{settled-wide, ended_law}
 held-slot : (b : Book) (id : List ℕ) → slot_of b id < b.head.slots →
     held_transfer b id ≡ some (transfer_of (names_of b.head) (row b.opened (slot_of b id)))
 held-slot b id h =
-    let place : where_is b id ≡ Opened (slot_of b id) = rw (lt-ltb (slot_of b id) b.head.slots h) in
+    let place : where_is b id ≡ Some (Opened (slot_of b id)) = rw (lt-ltb (slot_of b id) b.head.slots h) in
     ap (map_some (transfer_of (names_of b.head))) (held_at b id ∙ ap (row_at b) place)
 
 -- only a RESERVED transfer ends, and a party of it is told by the record's account number

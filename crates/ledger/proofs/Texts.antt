@@ -10,24 +10,18 @@ use mir.Val.{SFits}
 use Rattle.octets.proofs.Integers.{le_split, fits_split}
 use Rattle.form.specs.Regex.{Re, judge}
 use Rattle.form.specs.Listings.{code_form, date_time_form}
-use Rattle.form.specs.declared.Verdict.{Verdict}
-use Rattle.form.specs.declared.Verdict.TheVariants.{Fits, Stops}
+use Rattle.form.specs.Verdict.{of_form}
 use Rattle.form.proofs.Meaning.{fits as meaning}
 use Rattle.form.proofs.Places.{matched_bytes}
 use Rattle.tokens.proofs.FourDigits.{in_range}
 use Rattle.datetime.specs.Instant.{instant_of}
 use Rattle.datetime.proofs.Theorems.{form}
-use Rattle.rules.proofs.Fields.{instant_value}
-use Rattle.rules.specs.Calls.{Text, fits, is_of, code_of}
-use Rattle.book.proofs.Decisions.{clash}
+use Rattle.rules.proofs.Fields.{fits_form, instant_value}
+use Rattle.rules.specs.Calls.{Text, is_of, code_of}
 
--- a text that is of a form is judged to fit
-judged : (r : Re) (s : Text) → is_of r s ≡ true → judge r s ≡ Fits
-judged r s e = by (judge r s) e
-  where
-    by : (v : Verdict) → fits v ≡ true → v ≡ Fits
-    by Fits e = refl
-    by (Stops n) e = clash e
+-- a text that is of a form is judged to be
+judged : (r : Re) (s : Text) → is_of r s ≡ true → judge r s ≡ of_form
+judged r s e = fits_form (judge r s) e
 
 pub code_small : (s : Text) → is_of code_form s ≡ true → code_of s < 2 ^ 16
 code_small s e = omega (arith, (in_range s (judged code_form s e)).1)

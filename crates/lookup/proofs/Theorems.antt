@@ -3,6 +3,7 @@ use mathlib.Core.List.{[]}
 use mathlib.Core.Path.{◌≡◌, sym, ◌∙◌}
 use mathlib.Core.Bool.{Bool, true, false, cond}
 use mathlib.Core.Path.{refl}
+use Rattle.std.specs.Prelude.{Option}
 use Rattle.rules.specs.Answers.{is_done}
 use Rattle.rules.specs.Calls.{Text, lookup}
 use Rattle.rules.specs.Rules.{answer_to}
@@ -17,7 +18,7 @@ module _ (b : Book) (id : Text) where
   pub one_answer : (x y : Outcome) → x ≡ lookup_step b id → y ≡ lookup_step b id → x ≡ y
   one_answer x y p q = p ∙ sym q
 
-  pub one_place : (x y : Place) → x ≡ lookup_place b id → y ≡ lookup_place b id → x ≡ y
+  pub one_place : (x y : Option Place) → x ≡ lookup_place b id → y ≡ lookup_place b id → x ≡ y
   one_place x y p q = p ∙ sym q
 
   -- a lookup changes nothing, refused or not

@@ -1,2 +1,1 @@
 pub mod Effect
-pub mod Inner

@@ -1,24 +1,30 @@
--- Laws of `same` and `all_zero`: how a loop that compares byte after byte comes to the whole answer.
+-- Laws of `same` and `all_zero`: what `==` of two slices, a loop that compares byte after byte, and the or of all bytes come to.
 use Prim.Native.Nat.{ℕ, zero, suc, ◌+◌, ◌<◌, ◌≤◌}
-use mathlib.Core.Path.{◌≡◌, refl, ap, ap₂, ◌∙◌}
+use mathlib.Core.Path.{◌≡◌, refl, sym, ap₂, ◌∙◌}
 use mathlib.Core.Bool.{Bool, true, false, false≢true, ◌&&◌}
-use mathlib.Core.List.{List, [], ◌∷◌, ◌++◌}
+use mathlib.Core.List.{List, [], ◌∷◌}
 use native.Mathlib.Omega.{arith}
 use native.Mathlib.Numerals.{add-one}
 use lib.Bits.{bit_or, or_add_and, and_le_l, and_le_r}
 use lib.Dec.{eqb}
-use lib.ListN.{length, get_or, take, drop, drop_of_length-le}
-use lib.Seq.{drop-cons, take-suc}
+use lib.ListN.{length, get_or, drop, drop_of_length-le}
+use lib.Seq.{drop-cons}
 use borrow.Author.Tests.{eq-eqb, ne_eqb, eqb-true, eqb-false}
+use Rattle.std.specs.List.{fold}
+use Rattle.std.specs.Cmp.Lexicographic.{pointwise, bytes_decides, unequal}
 use Rattle.octets.specs.Parts.{same, zeros, all_zero}
-use Rattle.octets.proofs.Tests.{and-true, and-false, and_assoc}
+use Rattle.octets.proofs.Tests.{and-true, and_assoc}
+
+-- what `==` of two slices answers, of which the kit's library has the laws
+pub same_by_pairs : (xs ys : List ℕ) → pointwise eqb xs ys ≡ same xs ys
+unfolding same
+same_by_pairs [] [] = refl
+same_by_pairs [] (y ∷ ys) = refl
+same_by_pairs (x ∷ xs) [] = refl
+same_by_pairs (x ∷ xs) (y ∷ ys) = rw (same_by_pairs xs ys)
 
 pub other_length_lem : (xs ys : List ℕ) → (length xs ≡ length ys → ⊥) → same xs ys ≡ false
-unfolding same
-other_length_lem [] [] h = absurd (h refl)
-other_length_lem [] (y ∷ ys) h = refl
-other_length_lem (x ∷ xs) [] h = refl
-other_length_lem (x ∷ xs) (y ∷ ys) h = ap (λ (t : Bool). eqb x y && t) (other_length_lem xs ys (λ e. h (ap suc e))) ∙ and-false (eqb x y)
+other_length_lem xs ys h = sym (same_by_pairs xs ys) ∙ unequal eqb xs ys h
 
 -- the bytes at i, and the rest
 module _ (xs ys : List ℕ) (i : ℕ) (hx : i < length xs) (hy : i < length ys) where
@@ -38,20 +44,10 @@ same-done xs ys i hx hy = rw (drop_of_length-le xs hx, drop_of_length-le ys hy)
 
 -- the same lists are equal, and equal lists are the same
 pub same_refl : (xs : List ℕ) → same xs xs ≡ true
-unfolding same
-same_refl [] = refl
-same_refl (x ∷ xs) = rw (eq-eqb x x refl, same_refl xs)
+same_refl xs = sym (same_by_pairs xs xs) ∙ (bytes_decides xs xs).1 refl
 
 pub same_equal : (xs ys : List ℕ) → same xs ys ≡ true → xs ≡ ys
-unfolding same
-same_equal [] [] h = refl
-same_equal [] (y ∷ ys) h = absurd (false≢true h)
-same_equal (x ∷ xs) [] h = absurd (false≢true h)
-same_equal (x ∷ xs) (y ∷ ys) h = go (eqb x y) refl h (same_equal xs ys)
-  where
-    go : (t : Bool) → eqb x y ≡ t → t && same xs ys ≡ true → (same xs ys ≡ true → xs ≡ ys) → x ∷ xs ≡ y ∷ ys
-    go true e g more = ap₂ (λ (u : ℕ) (us : List ℕ). u ∷ us) (eqb-true x y e) (more g)
-    go false e g more = absurd (false≢true g)
+same_equal xs ys h = (bytes_decides xs ys).0 (same_by_pairs xs ys ∙ h)
 
 -- bytes taken together by or are zero where each is
 or_by : (p q : Bool) (a b : ℕ) → eqb a 0 ≡ p → eqb b 0 ≡ q → eqb (bit_or a b) 0 ≡ p && q
@@ -60,15 +56,14 @@ or_by true false a b e f =
     ne_eqb (bit_or a b) 0 (λ z. eqb-false b 0 f (omega (arith, z, or_add_and a b, and_le_l a b, and_le_r a b)))
 or_by false q a b e f = ne_eqb (bit_or a b) 0 (λ z. eqb-false a 0 e (omega (arith, z, or_add_and a b, and_le_l a b, and_le_r a b)))
 
-zero-snoc : (xs : List ℕ) (y : ℕ) → all_zero (xs ++ (y ∷ [])) ≡ all_zero xs && eqb y 0
+zero-fold : (xs : List ℕ) (together : ℕ) → eqb (fold bit_or together xs) 0 ≡ eqb together 0 && all_zero xs
 unfolding all_zero
-zero-snoc [] y = and-true (eqb y 0)
-zero-snoc (x ∷ xs) y = rw (zero-snoc xs y, and_assoc)
+zero-fold [] together = sym (and-true (eqb together 0))
+zero-fold (x ∷ xs) together =
+    zero-fold xs (bit_or together x) ∙ rw (or_by (eqb together 0) (eqb x 0) together x refl refl, and_assoc)
 
-pub zero_more : (s : List ℕ) (i acc : ℕ) → eqb acc 0 ≡ all_zero (take i s) → i < length s →
-    eqb (bit_or acc (get_or s i 0)) 0 ≡ all_zero (take (i + 1) s)
-zero_more s i acc e h = or_by (eqb acc 0) (eqb (get_or s i 0) 0) acc (get_or s i 0) refl refl
-    ∙ rw (add-one i, take-suc s i 0 h, zero-snoc, e)
+pub zero_by_or : (xs : List ℕ) → eqb (fold bit_or 0 xs) 0 ≡ all_zero xs
+zero_by_or xs = zero-fold xs 0
 
 -- a run of zeros is zero, and a zero list is a run of zeros
 pub zeros-zero : (n : ℕ) → all_zero (zeros n) ≡ true

@@ -13,7 +13,7 @@ use Rattle.octets.specs.Parts.{part}
 pub length_part : (l : List ℕ) (at w : ℕ) → at + w ≤ length l → length (part l at w) ≡ w
 length_part l at w h = length-take-le w (drop at l) (simp length-drop (omega arith))
 
-bytes_take : (n : ℕ) (s : List ℕ) → Bytes s → Bytes (take n s)
+pub bytes_take : (n : ℕ) (s : List ℕ) → Bytes s → Bytes (take n s)
 bytes_take zero s h = tt
 bytes_take (suc n) [] h = tt
 bytes_take (suc n) (c ∷ cs) h = (h.0, bytes_take n cs h.1)

@@ -13,63 +13,40 @@ ghost use Rattle.octets.specs.Parts.{part, same as is_same, zeros, all_zero};
 pub fn at(s: &[u8], i: usize) -> u8
     ensures { (result ≡ get_or s.now i 0) × (result < 256) }
 {
-    if i < s.len() {
-        return s[i];
-    }
-    0
+    s.get(i).copied().unwrap_or(0)
 }
 
 // Whether two slices are the same, byte for byte.
+#[tactic(auto, using(crate::proofs::Equal::same_by_pairs))]
 pub fn same(s: &[u8], t: &[u8]) -> bool
     ensures { result ≡ is_same s.now t.now }
 {
-    if s.len() != t.len() {
-        return false;
-    }
-    let mut i = 0;
-    while i < s.len() {
-        if s[i] != t[i] {
-            return false;
-        }
-        i += 1;
-    }
-    true
+    s == t
 }
 
 // Whether every byte is zero. All are taken together by or: a test for each would be many times slower.
+#[tactic(auto, using(crate::proofs::Equal::zero_by_or))]
 pub fn all_zero(s: &[u8]) -> bool
     ensures { result ≡ all_zero s.now }
 {
-    let mut together: u8 = 0;
-    let mut i = 0;
-    while i < s.len() {
-        together = together | s[i];
-        i += 1;
-    }
-    together == 0
+    s.iter().fold(0, |together, b| together | *b) == 0
 }
 
 // Zeros in every byte.
+#[tactic(auto, unfolding(crate::specs::Parts::zeros))]
 pub fn clear(s: &mut [u8])
     ensures { s.new ≡ zeros (length s.old) }
 {
-    let mut i = 0;
-    while i < s.len() {
-        s[i] = 0;
-        i += 1;
-    }
+    s.fill(0);
 }
 
 // The bytes of a source, from a place on.
+#[tactic(auto, using(crate::proofs::Parts::part_home))]
 pub fn put(out: &mut [u8], at: usize, source: &[u8])
     requires { at + length source.now ≤ length out.old }
     ensures { out.new ≡ sets out.old at source.now }
 {
-    let mut i = 0;
-    while i < source.len() {
-        out[at + i] = source[i];
-        i += 1;
-    }
+    out[at..at + source.len()].copy_from_slice(source);
 }
 
 // The number of width bytes from a place on, the most significant first.
@@ -77,45 +54,31 @@ pub fn number(s: &[u8], at: usize, width: usize) -> u64
     requires { (width ≤ 8) × (at + width ≤ length s.now) }
     ensures { (result ≡ number_in (part s.now at width)) × (result < 256 ^ width) }
 {
-    let mut n: u64 = 0;
-    let mut i = 0;
-    while i < width {
-        n = n * 256 + (s[at + i] as u64);
-        i += 1;
+    let mut n = 0;
+    for b in &s[at..at + width] {
+        n = n * 256 + u64::from(*b);
     }
     n
 }
 
 // The last bytes of a number, width of them, the most significant first, at a place.
+#[tactic(auto, using(crate::proofs::Parts::part_home, crate::proofs::Numbers::last_bytes))]
 pub fn put_number(out: &mut [u8], at: usize, x: u64, width: usize)
     requires { (width ≤ 8) × (at + width ≤ length out.old) }
     ensures { out.new ≡ sets out.old at (big_endian width x) }
 {
-    let mut i: usize = 0;
-    while i < width {
-        let shift = 8 * (width - 1 - i);
-        out[at + i] = ((x >> shift) % 256) as u8;
-        i += 1;
-    }
+    out[at..at + width].copy_from_slice(&x.to_be_bytes()[8 - width..]);
 }
 
-// A signed number's bits in two's complement, and back.
+// A signed number's bits in two's complement, and back. Both are public, kept by their names for their clauses in `of_z` and `to_z`.
 pub fn unsigned(x: i64) -> u64
     ensures { result ≡ of_z w64 x }
 {
-    if x < 0 {
-        let m = -(x + 1);
-        return 18446744073709551615 - (m as u64);
-    }
-    x as u64
+    x.cast_unsigned()
 }
 
 pub fn signed(bits: u64) -> i64
     ensures { result ≡ to_z w64 bits }
 {
-    if bits < 9223372036854775808 {
-        return bits as i64;
-    }
-    let m = 18446744073709551615 - bits;
-    -(m as i64) - 1
+    bits.cast_signed()
 }

@@ -1,24 +1,14 @@
--- What the inner function goes by, once the fields are in form: 20, or the books afresh; no public promise cites this.
-use Rattle.std.specs.Prelude.{cond, List, ℤ, length, ℕ, ◌/◌}
-use Rattle.octets.specs.Parts.{zeros}
-use Rattle.rules.specs.Answers.{is_done}
-use Rattle.rules.specs.Rules.{open_rules}
-use Rattle.shape.specs.Reading.{Book}
-use Rattle.book.specs.Step.{Outcome}
+-- What the inner functions go by; no public promise cites these.
+use Rattle.std.specs.Prelude.{ℕ, ◌/◌, cond, ◌&&◌, Option, Some, None, List, ℤ}
+use Rattle.account.specs.declared.Head.{Head}
+use Rattle.rules.specs.Rules.{length_for}
 use Rattle.open_book.specs.Effect.{fresh_head}
 
-abbrev pub started_book : Book → List ℕ → ℤ → Book
-started_book b currency clock =
-    record {
-      head = fresh_head currency clock (length b.opened / 160) (length b.ended / 160);
-      opened = zeros (length b.opened);
-      ended = zeros (length b.ended);
-    }
+-- how many records a book of so many bytes has
+abbrev pub records_in : ℕ → ℕ → Option ℕ
+records_in most bytes = cond (length_for most bytes) (Some (bytes / 160)) None
 
-unfoldable pub started : Book → List ℕ → ℤ → Outcome
-started b currency clock =
-    record {
-      answer = open_rules (length b.opened) (length b.ended);
-      mark = 0;
-      left = cond (is_done (open_rules (length b.opened) (length b.ended))) (started_book b currency clock) b;
-    }
+-- the head of a book afresh, for books of so many bytes
+abbrev pub fresh_for : ℕ → ℕ → List ℕ → ℤ → Option Head
+fresh_for opened ended currency clock =
+    cond (length_for 1024 opened && length_for 65535 ended) (Some (fresh_head currency clock (opened / 160) (ended / 160))) None

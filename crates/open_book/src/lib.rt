@@ -1,80 +1,61 @@
 // Open: both books and the account places are filled with zeros, and the head has the currency and the first book time.
 #![tactic(auto)]
 
-ghost use Rattle.std.specs.Prelude.{◌≡◌, ◌<◌, length};
-ghost use Rattle.rules.specs.Rules.{length_for};
+ghost use Rattle.std.specs.Prelude.{◌≡◌, ◌&&◌, true, false, MatchResult, length};
+ghost use Rattle.form.specs.Listings.{currency_form, date_time_form};
+ghost use Rattle.datetime.specs.Instant.{instant_of};
+ghost use Rattle.rules.specs.Calls.{is_of};
 ghost use Rattle.book.specs.Step.{book_of, outcome};
-ghost use Rattle.open_book.specs.Effect.{blank_account, fresh_head, open_step};
-ghost use Rattle.open_book.specs.Inner.{started};
+ghost use Rattle.open_book.specs.Effect.{open_step};
+ghost use Rattle.open_book.specs.Inner.{records_in, fresh_for};
 
-use account::{Account, Head, Position};
-use amount::Amount;
+use account::{BLANK, Head};
 use book::Answered;
-use datetime::InstantRead;
+use form::Stop;
 use rules::Answer;
 
-fn length_ok(bytes: usize, most: usize) -> bool
-    ensures { result ≡ length_for most bytes }
+// "An open book (1 to 1,024 records) and a finished book (1 to 65,535)": 01's numbers, which the shape tests too and says where it does.
+const MOST_SLOTS: u16 = 1_024;
+
+const MOST_PLACES: u16 = 65_535;
+
+// How many records a book of so many bytes has: whole ones, 1 to so many at most.
+fn records_in(bytes: usize, most: u16) -> Option<u16>
+    ensures { result ≡ records_in most bytes }
 {
-    (bytes % 160 == 0) & ((1 <= bytes / 160) & (bytes / 160 <= most))
+    let records = u16::try_from(bytes / 160).ok()?;
+    (bytes % 160 == 0 && (1..=most).contains(&records)).then_some(records)
 }
 
-fn blank() -> Account
-    ensures { result ≡ blank_account }
+// The head of a book afresh, where both books have room for so many records.
+#[tactic(auto, unfolding(octets::specs::Parts::zeros))]
+fn fresh(opened: usize, ended: usize, currency: &[u8], time: i64) -> Option<Head>
+    requires { length currency.now ≡ 3 }
+    ensures { result ≡ fresh_for opened ended currency.now time }
 {
-    let name = [0u8; 32];
-    Account {
-        name,
-        length: 0,
-        cap: Amount {
-            units: 0,
-            remainder: 0,
-        },
-        position: Position {
-            units: 0,
-            remainder: 0,
-        },
-    }
-}
-
-fn fresh(currency: [u8; 3], time: i64, slots: u16, places: u16) -> Head
-    ensures { result ≡ fresh_head currency time slots places }
-{
-    let none = blank();
-    let accounts = [none; 32];
-    Head {
-        accounts,
+    let slots = records_in(opened, MOST_SLOTS)?;
+    let places = records_in(ended, MOST_PLACES)?;
+    let mut letters = [0; 3];
+    letters.copy_from_slice(currency);
+    Some(Head {
+        accounts: [BLANK; 32],
         count: 0,
-        currency,
+        currency: letters,
         time,
         slots,
         places,
         finished: 0,
-    }
+    })
 }
 
-fn letters(s: &[u8]) -> [u8; 3]
-    requires { length s.now ≡ 3 }
-    ensures { result ≡ s.now }
+// The book time, where both fields are in form.
+#[tactic(auto, unfolding(datetime::specs::Instant::read_date_time))]
+fn read_fields(currency: &[u8], time: &[u8]) -> Result<i64, Stop>
+    ensures { let fit = is_of currency_form currency.now && is_of date_time_form time.now in
+        MatchResult result (λ t. (fit ≡ true) × (t ≡ instant_of time.now)) (λ _. fit ≡ false) }
 {
-    [s[0], s[1], s[2]]
-}
-
-fn start(h: Head, opened: &mut [u8], ended: &mut [u8], currency: &[u8], time: i64) -> Answered
-    requires { length currency.now ≡ 3 }
-    ensures { outcome result opened.new ended.new
-        ≡ started (book_of h opened.old ended.old) currency.now time }
-{
-    let lengths = length_ok(opened.len(), 1024) & length_ok(ended.len(), 65535);
-    if !lengths {
-        return book::reply(h, Answer::BadLengths, 0);
-    }
-    let slots = (opened.len() / 160) as u16;
-    let places = (ended.len() / 160) as u16;
-    octets::clear(opened);
-    octets::clear(ended);
-    let next = fresh(letters(currency), time, slots, places);
-    book::reply(next, Answer::Done, 0)
+    tokens::read_currency(currency)?;
+    datetime::read_datetime(time)
 }
 
 // Open: 1, 20. Refused, it gives back the head that it was given.
@@ -88,12 +69,13 @@ pub fn open_book(
     ensures { outcome result opened.new ended.new
         ≡ open_step (book_of h opened.old ended.old) currency.now time.now }
 {
-    if !book::fits(tokens::read_currency(currency)) {
+    let Ok(instant) = read_fields(currency, time) else {
         return book::reply(h, Answer::NotInForm, 0);
-    }
-    let read = datetime::read_datetime(time);
-    match read {
-        InstantRead::Refused(_) => book::reply(h, Answer::NotInForm, 0),
-        InstantRead::Value(t) => start(h, opened, ended, currency, t),
-    }
+    };
+    let Some(next) = fresh(opened.len(), ended.len(), currency, instant) else {
+        return book::reply(h, Answer::BadLengths, 0);
+    };
+    opened.fill(0);
+    ended.fill(0);
+    book::reply(next, Answer::Done, 0)
 }

@@ -36,7 +36,6 @@ use Rattle.shape.specs.Shape.{shape, none_twice, total}
 use Rattle.shape.specs.Sound.{SoundAccount, SoundSlot, Sound}
 use Rattle.shape.proofs.Names.{length_accounts}
 use Rattle.shape.proofs.Sound.{shape_of, lengths_kept}
-use Rattle.book.specs.declared.Decision.{Decision}
 use Rattle.book.proofs.Decisions.{clash, in_open}
 use Rattle.prepare.specs.Effect.{new_number, free_slot, raised}
 use Rattle.prepare.specs.Inner.{said, reserved_by, prepared_by}
@@ -60,8 +59,8 @@ module _ (b : Book) (s : Sound b) (long : length b.head.accounts ≡ 32) where
       sym (found payer h) ∙ ap (λ (i : ℕ). name_of (get_or (accounts_of b.head) i no_account)) e ∙ found payee k in
       clash (sym d ∙ ap (same payer) (sym names) ∙ same_refl payer)
 
-  module _ (payer payee : List ℕ) (c : Content) (sized : Sized c) (small : InRange c.amount) (d : Decision)
-      (a : Accepted b payer payee c (place_of b.head payer) (place_of b.head payee) d) where
+  module _ (payer payee : List ℕ) (c : Content) (sized : Sized c) (small : InRange c.amount)
+      (a : Accepted b payer payee c (place_of b.head payer) (place_of b.head payee)) where
     abbrev p : ℕ
     p = place_of b.head payer
 
@@ -196,6 +195,6 @@ module _ (b : Book) (s : Sound b) (long : length b.head.accounts ≡ 32) where
       go : (t : Bool) → is_done (prepare_rules (seen b) (said payer payee c) currency) ≡ t →
           shape (cond t (reserved_by b payer payee c) b) ≡ true
       go true f =
-          reserved-shape payer payee c sized small _
+          reserved-shape payer payee c sized small
           (accepted b s long payer payee currency c (ap is_done (answer-is b s long payer payee currency c) ∙ f))
       go false f = e

@@ -1,35 +1,33 @@
 -- The tests of the code against those of the rules: amounts by their parts, instants by their bits, the cap by its contrary.
-use Prim.Native.Nat.{ℕ, ◌+◌, ◌*◌, ◌≤◌, ◌<◌}
+use Prim.Native.Nat.{ℕ, ◌+◌, ◌*◌, ◌<◌}
 use mathlib.Core.Path.{◌≡◌, refl, ap, sym, ◌∙◌}
-use mathlib.Core.Bool.{Bool, true, false, cond, not, ◌&&◌}
-use mathlib.Core.List.{List, []}
+use mathlib.Core.Bool.{Bool, true, false, not, ◌&&◌}
+use mathlib.Core.List.{List}
 use native.Mathlib.Omega.{arith}
 use lib.Dec.{eqb, leb, ltb}
-use lib.ListN.{length, take, get_or}
 use lib.IntN.{ℤ, pos, negsuc, ◌+ℤ◌}
 use lib.Signed.{le_z, lt_z}
 use mir.Facts.{to_z-of_z}
 use mir.Syntax.{w64}
 use mir.Val.{SFits, of_z, to_z}
 use borrow.Author.Tests.{eqb-true, eqb-false, eq-eqb, ne_eqb, leb-true, leb-false, lt-ltb, le-ltb}
-use Rattle.octets.specs.Lists.{count}
 use Rattle.octets.specs.Parts.{same}
 use Rattle.octets.specs.Integers.{up, dn}
 use Rattle.octets.proofs.Integers as integers
 use Rattle.octets.proofs.Integers.{le_split, le_yes}
-use Rattle.octets.proofs.Tests.{both}
-use Rattle.octets.proofs.Walk.{count_more}
+use Rattle.octets.proofs.Tests.{and_assoc, both}
 use Rattle.amount.specs.declared.Amount.{Amount}
 use Rattle.account.specs.declared.Position.{Position}
+use Rattle.account.specs.declared.Head.{Head}
+use Rattle.account.specs.Head.{named, account_at}
 use Rattle.account.specs.Position.{worth, value, raised_by, within}
 use Rattle.account.proofs.Positions.{value-raised}
 use Rattle.record.specs.declared.Content.{Content}
-use Rattle.record.specs.Layout.{Row, get, num, expiration_of, condition_field, packet_field, units_field, remainder_field}
-use Rattle.record.specs.Rows.{rows}
-use Rattle.record.proofs.Rows.{length-rows, rows_at, state_of_lem}
-use Rattle.rules.specs.Rules.{sameℤ}
-use Rattle.shape.specs.Reading.{is_taken}
-use Rattle.prepare.specs.Inner.{same_values}
+use Rattle.record.specs.Layout.{Row, get, num, amount_of, expiration_of, payer_field, payee_field, condition_field, packet_field, units_field, remainder_field}
+use Rattle.rules.specs.Rules.{sameℤ, same_content}
+use Rattle.shape.specs.Reading.{names_of, transfer_of}
+use Rattle.shape.proofs.Names.{name_at}
+use Rattle.prepare.specs.Inner.{said, same_values, Comparable}
 
 -- amounts are equal exactly if their units and remainders are, as both remainders are below a unit
 pub same-amount : (u m v n : ℕ) → m < 10000 → n < 10000 → eqb u v && eqb m n ≡ eqb (u * 10000 + m) (v * 10000 + n)
@@ -64,20 +62,31 @@ same_instant x y h k = go (eqb (of_z w64 x) (of_z w64 y)) (sameℤ x y) refl ref
         absurd (eqb-false (of_z w64 x) (of_z w64 y) e (ap (of_z w64) q))
 
 -- the values of a record against those of a prepare, each test by its own law
-pub values_same : (r : Row) (c : Content) {u m : ℕ} {z : ℤ} {k p : Bool} → u ≡ num units_field r → m ≡ num remainder_field r → z ≡ expiration_of r →
-    SFits w64 z → SFits w64 c.expiration → num remainder_field r < 10000 → c.amount.remainder < 10000 →
-    k ≡ same (get condition_field r) c.condition → p ≡ same (get packet_field r) c.packet →
-    (eqb u c.amount.units && eqb m c.amount.remainder) && (k && (eqb (of_z w64 z) (of_z w64 c.expiration) && p)) ≡ same_values r c
-values_same r c u m z zf ef h i k p =
+pub values_same : (r : Row) (c : Content) {t k e p : Bool} (a : Amount) → (a.units ≡ num units_field r) × (a.remainder ≡ num remainder_field r) →
+    num remainder_field r < 10000 → c.amount.remainder < 10000 →
+    t ≡ (eqb a.units c.amount.units && eqb a.remainder c.amount.remainder) → k ≡ same (get condition_field r) c.condition →
+    e ≡ sameℤ (expiration_of r) c.expiration → p ≡ same (get packet_field r) c.packet → ((t && k) && e) && p ≡ same_values r c
+values_same r c a f h i t k e p =
     rw (
-      same_instant _ c.expiration zf ef,
-      u,
-      m,
-      z,
+      t,
       k,
+      e,
       p,
+      f.0,
+      f.1,
       same-amount (num units_field r) (num remainder_field r) c.amount.units c.amount.remainder h i,
+      and_assoc (eqb (amount_of r) (worth c.amount) && same (get condition_field r) c.condition),
+      and_assoc (eqb (amount_of r) (worth c.amount)),
     )
+
+-- the contents compared, by the parties' accounts
+pub content_by_parts : (h : Head) (r : Row) (c : Content) (payer payee : List ℕ) → Comparable h r c →
+    (named payer (account_at h (num payer_field r)) && named payee (account_at h (num payee_field r))) && same_values r c
+    ≡ same_content (transfer_of (names_of h) r).content (said payer payee c)
+unfolding transfer_of
+content_by_parts h r c payer payee f =
+    and_assoc (named payer (account_at h (num payer_field r))) (named payee (account_at h (num payee_field r))) (same_values r c)
+    ∙ rw (name_at h (num payer_field r) f.body.payer, name_at h (num payee_field r) f.body.payee)
 
 -- more than the cap is not at most the cap
 not-leb : (a b : ℕ) → not (leb a b) ≡ ltb b a
@@ -95,16 +104,3 @@ not_at_most (negsuc a) (negsuc b) = not-leb b a
 
 pub above_cap : (p : Position) (a cap : Amount) → not (within (raised_by p a) cap) ≡ lt_z (pos (worth cap)) (value p +ℤ pos (worth a))
 above_cap p a cap = not_at_most (value (raised_by p a)) (pos (worth cap)) ∙ ap (lt_z (pos (worth cap))) (value-raised p a)
-
--- one slot more is counted
-one-or-none : (t : Bool) → ◌≡◌ {A = ℕ} (cond t 0 1) (cond (not t) 1 0)
-one-or-none true = refl
-one-or-none false = refl
-
-pub count-slot : (book : List ℕ) (slots k n m : ℕ) → slots * 160 ≤ length book → k < slots → n ≡ count is_taken (take k (rows slots book)) →
-    m ≡ cond (eqb (get_or book (k * 160 + 16) 0) 0) 0 1 → n + m ≡ count is_taken (take (k + 1) (rows slots book))
-count-slot book slots k n m h l e f =
-    let t : m ≡ cond (is_taken (get_or (rows slots book) k [])) 1 0 =
-    f ∙ one-or-none (eqb (get_or book (k * 160 + 16) 0) 0)
-    ∙ rw (rows_at slots k book [] l, state_of_lem book k (omega arith)) in
-    rw (e, t) (sym (count_more is_taken (rows slots book) k [] (omega (arith, length-rows slots book))))

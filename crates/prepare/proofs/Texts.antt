@@ -1,6 +1,6 @@
 -- The fields of a prepare in form, parties and currency first, and the lengths and the range of the values that are read.
 use Prim.Native.Nat.{ℕ, ◌<◌, ◌^◌}
-use mathlib.Core.Path.{◌≡◌, refl, sym, ap, subst⁻¹, ◌∙◌}
+use mathlib.Core.Path.{◌≡◌, refl, sym, ap, subst⁻¹}
 use mathlib.Core.Bool.{Bool, true, false, ◌&&◌}
 use mathlib.Core.List.{List}
 use native.Mathlib.Omega.{arith}
@@ -13,13 +13,15 @@ use Rattle.amount.specs.declared.Amount.{Amount}
 use Rattle.amount.specs.Amount.{ten_thousandths, amount_of}
 use Rattle.amount.proofs.Theorems as amounts
 use Rattle.uuid_text.specs.Id.{id_of, byte_at}
+use Rattle.form.specs.Verdict.{Verdict, value_by}
+use Rattle.base64url.specs.Condition.{read_condition}
 use Rattle.base64url.proofs.Theorems.{held}
 use Rattle.sha256.proofs.Facts.{length-sha256}
 use Rattle.account.specs.Position.{InRange}
 use Rattle.record.specs.declared.Content.{Content}
 use Rattle.record.proofs.Fields.{Sized}
-use Rattle.rules.specs.Calls.{PrepareText, prepare, is_of, in_form}
-use Rattle.rules.proofs.Fields.{fits_form, amount-value, condition_bytes}
+use Rattle.rules.specs.Calls.{PrepareText, prepare, is_of, in_form, condition_of}
+use Rattle.rules.proofs.Fields.{fits_form, amount-value}
 use Rattle.prepare.specs.Inner.{names_fit, texts_fit, values_in}
 
 -- an amount in form is in range
@@ -61,6 +63,10 @@ id_long : (s : List ℕ) → length (id_of s) ≡ 16
 unfolding id_of
 id_long s = length-build (byte_at s) 16
 
+condition_long : (s : List ℕ) → is_of condition_form s ≡ true → length (condition_of s) ≡ 32
+unfolding read_condition
+condition_long s e = (held s (condition_of s) (ap (λ (v : Verdict). value_by v (condition_of s)) (fits_form (judge condition_form s) e))).0
+
 module _ (id amount condition expiration packet : List ℕ) (e : texts_fit id amount condition expiration packet ≡ true) where
   each : (is_of id_form id ≡ true) × (is_of amount_form amount ≡ true) × (is_of condition_form condition ≡ true)
       × (is_of date_time_form expiration ≡ true) × (is_of packet_form packet ≡ true)
@@ -70,9 +76,15 @@ module _ (id amount condition expiration packet : List ℕ) (e : texts_fit id am
   pub values_sized : Sized (values_in id amount condition expiration packet)
   values_sized = record {
     id = id_long id;
-    condition = ap length (sym (condition_bytes condition each.2)) ∙ (held condition).0;
+    condition = condition_long condition each.2;
     packet = length-sha256 packet;
   }
 
   pub values_ranged : InRange (values_in id amount condition expiration packet).amount
   values_ranged = amount_range amount each.1
+
+-- so the values that are read are in range
+pub ranged : (id amount condition expiration packet : List ℕ) (names : Bool) (c : Content) →
+    (names && texts_fit id amount condition expiration packet ≡ true) × (c ≡ values_in id amount condition expiration packet) → InRange c.amount
+ranged id amount condition expiration packet names c f =
+    rw f.1 (values_ranged id amount condition expiration packet (both names (texts_fit id amount condition expiration packet) f.0).1)

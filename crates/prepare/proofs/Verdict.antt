@@ -1,16 +1,17 @@
 -- What is decided is what the rules answer; and what an answer 0 tells.
-use Prim.Native.Nat.{ℕ, suc, ◌+◌, ◌*◌, ◌≤◌, ◌<◌}
-use mathlib.Core.Path.{◌≡◌, refl, ap, ap₂, sym, ◌∙◌}
+use Prim.Native.Nat.{ℕ, ◌+◌, ◌*◌, ◌≤◌, ◌<◌}
+use mathlib.Core.Path.{◌≡◌, refl, ap, sym, ◌∙◌}
 use mathlib.Core.Bool.{Bool, true, false, cond, not}
 use mathlib.Core.List.{List, [], ◌∷◌}
 use mathlib.Core.Option.{Option, none, some}
+use Rattle.std.proofs.Common.{Result, Ok, Err}
 use native.Mathlib.Omega.{arith}
 use lib.Dec.{eqb, leb}
 use lib.ListN.{length}
 use lib.Seq.{sets}
 use lib.Signed.{le_z}
 use borrow.Author.Tests.{eqb-true, eqb-false, leb-true, leb-false}
-use Rattle.octets.specs.Lists.{index, count}
+use Rattle.octets.specs.Lists.{index}
 use Rattle.octets.specs.Parts.{same, zeros}
 use Rattle.octets.proofs.Equal.{zero-zeros}
 use Rattle.octets.proofs.Search.{first_at, first-none, index-le, index-passes}
@@ -18,7 +19,7 @@ use Rattle.account.specs.declared.Account.{Account}
 use Rattle.account.specs.Position.{InRange}
 use Rattle.account.specs.Head.{named, accounts_of, account_at, no_account, place_of}
 use Rattle.record.specs.declared.Content.{Content}
-use Rattle.record.specs.Layout.{Row, is_free, new_row}
+use Rattle.record.specs.Layout.{Row, num, number_field, is_free, new_row}
 use Rattle.record.specs.Rows.{row}
 use Rattle.record.proofs.Rows.{length-rows, rows_at, length-row}
 use Rattle.rules.specs.declared.Answer.{Answer}
@@ -31,12 +32,15 @@ use Rattle.shape.specs.Reading.{Book, account_of, standing, map_some, names_of, 
 use Rattle.shape.specs.Seen.{seen}
 use Rattle.shape.specs.Sound.{Sound}
 use Rattle.shape.proofs.Names.{length_accounts, account_at_lem}
-use Rattle.book.specs.declared.Decision.{Decision}
-use Rattle.book.specs.Step.{Outcome}
-use Rattle.book.specs.Inner.{resent}
-use Rattle.book.proofs.Decisions.{clash, not-resent, in_open}
+use Rattle.book.specs.Inner.{resent, kept}
+use Rattle.book.proofs.Decisions.{clash, in_open}
 use Rattle.prepare.specs.Effect.{new_number, free_slot, raised}
-use Rattle.prepare.specs.Inner.{said, party_rules, passes, fresh_rules, on_none, on_id, CanReserve, reserved_by, prepared_by}
+use Rattle.prepare.specs.declared.Accounts.{Accounts}
+use Rattle.prepare.specs.declared.Reservation.{Reservation}
+use Rattle.prepare.specs.declared.Refusal.{Refusal}
+use Rattle.prepare.specs.Inner.{said, or_else, on_record, party_rules, parties_at, passes, fresh_rules, reservation_in, new_decision}
+use Rattle.prepare.specs.Inner.{NewRises, decided, CanReserve, reserved_by, prepared_by}
+use Rattle.prepare.proofs.Fresh.{all-counted}
 use Rattle.prepare.proofs.Places.{rises}
 
 -- four checks on the parties: with what follows them, and when none of them holds
@@ -61,32 +65,18 @@ none-holds false false false v e = (refl, refl, refl)
 abbrev checks : Bool → Bool → Bool → Bool → Answer
 checks s t u v = first_of ((s gives Expired) ∷ (t gives OpenBookFull) ∷ (u gives NoPlaceLeft) ∷ (v gives CapPassed) ∷ []) Done
 
-none_fails : (s t u v : Bool) → is_done (checks s t u v) ≡ true →
-    (t ≡ false) × (u ≡ false) × (v ≡ false) × (checks s t u v ≡ Done)
+none_fails : (s t u v : Bool) → is_done (checks s t u v) ≡ true → (t ≡ false) × (u ≡ false) × (v ≡ false) × (checks s t u v ≡ Done)
 none_fails true t u v e = clash e
 none_fails false true u v e = clash e
 none_fails false false true v e = clash e
 none_fails false false false true e = clash e
 none_fails false false false false e = (refl, refl, refl, refl)
 
--- where fewer elements fail a test than there are, one passes it
-all-counted : {A : Type 0} (q : A → Bool) (xs : List A) → length xs ≤ index q xs → count (λ (x : A). not (q x)) xs ≡ length xs
-all-counted q [] h = refl
-all-counted q (x ∷ xs) h = go (q x) h (all-counted q xs)
-  where
-    go : (t : Bool) → suc (length xs) ≤ cond t 0 (suc (index q xs)) →
-        (length xs ≤ index q xs → count (λ x. not (q x)) xs ≡ length xs) → cond (not t) 1 0 + count (λ x. not (q x)) xs ≡ suc (length xs)
-    go true h ih = absurd (omega arith)
-    go false h ih = omega (arith, ih (omega arith))
-
 below : (n m : ℕ) → n ≤ m → (n ≡ m → ⊥) → n < m
 below n m h k = omega arith
 
 -- where an answer 0 leads: no record holds the id, and the checks before it did not hold
-pub record Accepted (b : Book) (payer payee : List ℕ) (c : Content) (p q : ℕ) (d : Decision) : Type 0 where
-  pub answer : d.answer ≡ Done
-  pub mark : d.mark ≡ new_number b
-  pub slot : d.slot ≡ free_slot b
+pub record Accepted (b : Book) (payer payee : List ℕ) (c : Content) (p q : ℕ) : Type 0 where
   pub payer_is : p < b.head.count
   pub payee_is : q < b.head.count
   pub differ : same payer payee ≡ false
@@ -94,6 +84,11 @@ pub record Accepted (b : Book) (payer payee : List ℕ) (c : Content) (p q : ℕ
   pub free : free_slot b < b.head.slots
   pub place : open_count b + b.head.finished < b.head.places
   pub cap : passes b.head p c.amount ≡ false
+
+-- a refusal under an id that no book holds
+abbrev pub without_record : Result Reservation Answer → Result Reservation Refusal
+without_record (Ok r) = Ok r
+without_record (Err a) = Err (record { answer = a; mark = 0 })
 
 module _ (b : Book) (s : Sound b) (long : length b.head.accounts ≡ 32) where
   -- the account of a name, by its number
@@ -133,8 +128,16 @@ module _ (b : Book) (s : Sound b) (long : length b.head.accounts ≡ 32) where
     abbrev first-checks : Answer
     first-checks = party_rules b.head payer payee currency payer_at payee_at
 
-    abbrev decision : Option Row → Decision
-    decision r = on_id b payer payee c payer_at first-checks r
+    abbrev places : Accounts
+    places = record { payer = payer_at; payee = payee_at }
+
+    abbrev decision : Result Reservation Refusal
+    decision = decided b payer payee currency c
+
+    abbrev answer_by : Option Row → Answer
+    answer_by none = cond (is_done first-checks) (fresh_rules b.head b.opened c payer_at) first-checks
+    answer_by (some r) =
+        cond (is_done first-checks) (resent (same_content (transfer_of (names_of b.head) r).content (said payer payee c))) first-checks
 
     -- the parties' account numbers, where nothing was answered on them
     pub parties-found : is_done first-checks ≡ true → (payer_at < b.head.count) × (payee_at < b.head.count) × (same payer payee ≡ false)
@@ -156,9 +159,8 @@ module _ (b : Book) (s : Sound b) (long : length b.head.accounts ≡ 32) where
     fresh-is : payer_at < b.head.count → fresh_rules b.head b.opened c payer_at ≡ new_rules (seen b) (said payer payee c)
     fresh-is h = rw (account_found payer h)
 
-    decided_by : (r : Option Row) → (decision r).answer
+    decided_by : (r : Option Row) → answer_by r
         ≡ cond (is_done first-checks) (id_rules (seen b) (map_some (transfer_of (names_of b.head)) r) (said payer payee c)) first-checks
-    unfolding on_none
     decided_by none = go (is_done first-checks) refl
       where
         go : (t : Bool) → is_done first-checks ≡ t →
@@ -167,21 +169,8 @@ module _ (b : Book) (s : Sound b) (long : length b.head.accounts ≡ 32) where
         go false e = refl
     decided_by (some r) = refl
 
-    pub answer-is : (decision (held_row b c.id)).answer ≡ prepare_rules (seen b) (said payer payee c) currency
+    pub answer-is : answer_by (held_row b c.id) ≡ prepare_rules (seen b) (said payer payee c) currency
     answer-is = decided_by (held_row b c.id) ∙ sym rules_are
-
-    -- the mark
-    mark_by : (r : Option Row) → (decision r).mark
-        ≡ number_or (cond (is_done (decision r).answer) (new_number b) 0) (map_some (transfer_of (names_of b.head)) r)
-    unfolding on_none transfer_of
-    mark_by none = refl
-    mark_by (some r) = refl
-
-    pub mark_is : (decision (held_row b c.id)).mark ≡ (prepared_by b payer payee currency c).mark
-    unfolding prepared_by
-    mark_is =
-        mark_by (held_row b c.id)
-        ∙ ap (λ (a : Answer). number_or (cond (is_done a) (new_number b) 0) (held_transfer b c.id)) answer-is
 
     -- what an answer 0 tells
     free_left : open_count b < b.head.slots → free_slot b < b.head.slots
@@ -195,17 +184,13 @@ module _ (b : Book) (s : Sound b) (long : length b.head.accounts ≡ 32) where
             absurd (omega (arith, all-counted is_free (open_rows b) (omega arith)))
 
     fresh-accepted : is_done first-checks ≡ true → is_done (fresh_rules b.head b.opened c payer_at) ≡ true → held_row b c.id ≡ none →
-        Accepted b payer payee c payer_at payee_at (decision none)
-    unfolding on_none
+        Accepted b payer payee c payer_at payee_at
     fresh-accepted t e u =
         let p = parties-found t in
         let h = b.head in
         let f = none_fails (le_z c.expiration h.time) (leb h.slots (open_count b)) (leb h.places (open_count b + h.finished))
         (passes h payer_at c.amount) e in
         record {
-          answer = rw t f.3;
-          mark = rw (t, e);
-          slot = rw (t, e);
           payer_is = p.0;
           payee_is = p.1;
           differ = p.2;
@@ -215,25 +200,22 @@ module _ (b : Book) (s : Sound b) (long : length b.head.accounts ≡ 32) where
           cap = f.2;
         }
 
-    accepted_by : (r : Option Row) → held_row b c.id ≡ r → is_done (decision r).answer ≡ true →
-        Accepted b payer payee c payer_at payee_at (decision r)
-    unfolding on_none
+    refused_held : (t : Bool) → is_done first-checks ≡ t → (u : Bool) → is_done (cond t (resent u) first-checks) ≡ false
+    refused_held true e true = refl
+    refused_held true e false = refl
+    refused_held false e u = e
+
+    accepted_by : (r : Option Row) → held_row b c.id ≡ r → is_done (answer_by r) ≡ true → Accepted b payer payee c payer_at payee_at
     accepted_by none u e = go (is_done first-checks) refl e
       where
         go : (t : Bool) → is_done first-checks ≡ t → is_done (cond t (fresh_rules b.head b.opened c payer_at) first-checks) ≡ true →
-            Accepted b payer payee c payer_at payee_at (decision none)
+            Accepted b payer payee c payer_at payee_at
         go true t e = fresh-accepted t e u
         go false t e = clash (sym t ∙ e)
-    accepted_by (some r) u e = go (is_done first-checks) refl e
-      where
-        go : (t : Bool) → is_done first-checks ≡ t →
-            is_done (cond t (resent (same_content (transfer_of (names_of b.head) r).content (said payer payee c))) first-checks) ≡ true →
-            Accepted b payer payee c payer_at payee_at (decision (some r))
-        go true t e = not-resent (same_content (transfer_of (names_of b.head) r).content (said payer payee c)) e
-        go false t e = clash (sym t ∙ e)
+    accepted_by (some r) u e =
+        clash (sym (refused_held (is_done first-checks) refl (same_content (transfer_of (names_of b.head) r).content (said payer payee c))) ∙ e)
 
-    pub accepted : is_done (decision (held_row b c.id)).answer ≡ true →
-        Accepted b payer payee c payer_at payee_at (decision (held_row b c.id))
+    pub accepted : is_done (answer_by (held_row b c.id)) ≡ true → Accepted b payer payee c payer_at payee_at
     accepted e = accepted_by (held_row b c.id) refl e
 
     -- the lowest free slot is all zeros, so the record can be written there
@@ -245,53 +227,122 @@ module _ (b : Book) (s : Sound b) (long : length b.head.accounts ≡ 32) where
         let f : is_free r ≡ true = ap is_free (sym (rows_at n (free_slot b) b.opened [] h)) ∙ index-passes is_free (open_rows b) [] l in
         zero-zeros r ((s.slot (free_slot b) h).free f) ∙ ap zeros (length-row b.opened (free_slot b) (in_open b s (free_slot b) h))
 
-    pub can_reserve : InRange c.amount → (d : Decision) → d ≡ decision (held_row b c.id) → is_done d.answer ≡ true →
-        CanReserve b.head b.opened c payer_at payee_at d.slot
-    can_reserve i d e t =
-        let a = accepted (ap (λ (d : Decision). is_done d.answer) (sym e) ∙ t) in
-        let slot : d.slot ≡ free_slot b = ap (λ (d : Decision). d.slot) e ∙ a.slot in
-        record {
-          rises = rises b s payer_at c.amount a.payer_is i;
-          payee = omega (arith, a.payee_is, s.few);
-          inside = rw slot (in_open b s (free_slot b) a.free);
-          free = rw slot (slot-zero a.free);
-        }
+    -- the payer's position can rise, where nothing was answered on the parties
+    pub new_rises : InRange c.amount → NewRises b.head (parties_at b.head payer payee currency) c.amount
+    new_rises i = go (is_done first-checks) refl
+      where
+        go : (t : Bool) → is_done first-checks ≡ t → NewRises b.head (cond t (Ok places) (Err first-checks)) c.amount
+        go true e = rises b s payer_at c.amount (parties-found e).0 i
+        go false e = tt
+
+    -- what is decided, by whether a book holds the id
+    pub new_decided : held_row b c.id ≡ none → (parties : Result Accounts Answer) (d : Result Reservation Answer) →
+        parties ≡ parties_at b.head payer payee currency → d ≡ new_decision b.head b.opened parties c → without_record d ≡ decision
+    unfolding new_decision decided
+    new_decided u parties d e f =
+        rw (f, e, sym answer-is, u) (go (is_done first-checks) refl (is_done (fresh_rules b.head b.opened c payer_at)) refl)
+      where
+        go : (t : Bool) → is_done first-checks ≡ t → (v : Bool) → is_done (fresh_rules b.head b.opened c payer_at) ≡ v →
+            without_record (new_decision b.head b.opened (cond t (Ok places) (Err first-checks)) c)
+            ≡ cond (is_done (cond t (fresh_rules b.head b.opened c payer_at) first-checks)) (Ok (reservation_in b.head b.opened places))
+            (Err (record { answer = cond t (fresh_rules b.head b.opened c payer_at) first-checks; mark = 0 }))
+        go true t true v = rw v
+        go true t false v = rw v
+        go false t w v = rw t
+
+    pub held_decided : (r : Row) → held_row b c.id ≡ some r → (parties : Result Accounts Answer) →
+        parties ≡ parties_at b.head payer payee currency → Err (on_record b.head r payer payee c parties) ≡ decision
+    unfolding decided transfer_of
+    held_decided r u parties e =
+        rw (e, sym answer-is, u)
+        (go (is_done first-checks) refl (same_content (transfer_of (names_of b.head) r).content (said payer payee c)))
+      where
+        go : (t : Bool) → is_done first-checks ≡ t → (v : Bool) →
+            ◌≡◌ {A = Result Reservation Refusal}
+            (Err (record { answer = or_else (cond t (Ok places) (Err first-checks)) (resent v); mark = num number_field r }))
+            (cond (is_done (cond t (resent v) first-checks)) (Ok (reservation_in b.head b.opened places))
+            (Err (record { answer = cond t (resent v) first-checks; mark = num number_field r })))
+        go true t true = refl
+        go true t false = refl
+        go false t v = rw t
 
     -- what is left
-    outcome-same : (x y : Outcome) → x.answer ≡ y.answer → x.mark ≡ y.mark → x.left ≡ y.left → x ≡ y
-    outcome-same x y p q r = λ i. record { answer = p i; mark = q i; left = r i }
+    done_by : (r : Option Row) → is_done (answer_by r) ≡ true → answer_by r ≡ Done
+    done_by none e = go (is_done first-checks) refl e
+      where
+        go : (t : Bool) → is_done first-checks ≡ t → is_done (cond t (fresh_rules b.head b.opened c payer_at) first-checks) ≡ true →
+            cond t (fresh_rules b.head b.opened c payer_at) first-checks ≡ Done
+        go true t e =
+            let h = b.head in
+            (none_fails (le_z c.expiration h.time) (leb h.slots (open_count b)) (leb h.places (open_count b + h.finished))
+            (passes h payer_at c.amount) e).3
+        go false t e = clash (sym t ∙ e)
+    done_by (some r) e =
+        clash (sym (refused_held (is_done first-checks) refl (same_content (transfer_of (names_of b.head) r).content (said payer payee c))) ∙ e)
 
-    left_by_lem : (t : Bool) → is_done (decision (held_row b c.id)).answer ≡ t →
-        cond t (reserved_by b payer payee c) b ≡ (prepared_by b payer payee currency c).left
-    unfolding prepared_by
-    left_by_lem t e = ap (λ (t : Bool). cond t (reserved_by b payer payee c) b) (sym e ∙ ap is_done answer-is)
+    abbrev answer : Answer
+    answer = prepare_rules (seen b) (said payer payee c) currency
 
-    pub refused : (d : Decision) → d ≡ decision (held_row b c.id) → is_done d.answer ≡ false →
-        record { answer = d.answer; mark = d.mark; left = b } ≡ prepared_by b payer payee currency c
-    unfolding prepared_by
-    refused d e t =
-        outcome-same _ _ (ap (λ (d : Decision). d.answer) e ∙ answer-is) (ap (λ (d : Decision). d.mark) e ∙ mark_is)
-        (left_by_lem false (ap (λ (d : Decision). is_done d.answer) (sym e) ∙ t))
+    -- an answer 0 is one that was accepted
+    done_accepted : is_done answer ≡ true → (answer ≡ Done) × Accepted b payer payee c payer_at payee_at
+    done_accepted e =
+        let f : is_done (answer_by (held_row b c.id)) ≡ true = ap is_done answer-is ∙ e in
+        (sym answer-is ∙ done_by (held_row b c.id) f, accepted f)
 
-    pub reserved_by_lem : (d : Decision) → d ≡ decision (held_row b c.id) → is_done d.answer ≡ true →
+    abbrev reservation : Reservation
+    reservation = reservation_in b.head b.opened places
+
+    -- a reservation is that of an answer 0, and a refusal has the answer and the mark
+    decided_ok : (r : Reservation) → decision ≡ Ok r → (is_done answer ≡ true) × (reservation ≡ r)
+    unfolding decided
+    decided_ok r e = go (is_done answer) refl e
+      where
+        go : (t : Bool) → is_done answer ≡ t → ◌≡◌ {A = Result Reservation Refusal}
+            (cond t (Ok reservation) (Err (record { answer = answer; mark = number_or 0 (held_transfer b c.id) }))) (Ok r) →
+            (is_done answer ≡ true) × (reservation ≡ r)
+        go true t e = (t, cc)
+        go false t e = absurd cc
+
+    pub can_reserve : InRange c.amount → (r : Reservation) → decision ≡ Ok r → CanReserve b.head b.opened c r
+    can_reserve i r e =
+        let f = decided_ok r e in
+        let a = (done_accepted f.0).1 in
+        let can : CanReserve b.head b.opened c reservation = record {
+          rises = rises b s payer_at c.amount a.payer_is i;
+          payee = omega (arith, a.payee_is, s.few);
+          inside = in_open b s (free_slot b) a.free;
+          free = slot-zero a.free;
+        } in
+        rw (← f.1) can
+
+    pub reserved_lem : (r : Reservation) → decision ≡ Ok r →
         record {
           answer = Done;
-          mark = d.mark;
+          mark = r.number;
           left = record {
-            head = raised b.head payer_at c;
-            opened = sets b.opened (d.slot * 160) (new_row c payer_at payee_at d.mark);
+            head = raised b.head r.accounts.payer c;
+            opened = sets b.opened (r.slot * 160) (new_row c r.accounts.payer r.accounts.payee r.number);
             ended = b.ended;
           };
         } ≡ prepared_by b payer payee currency c
     unfolding prepared_by reserved_by
-    reserved_by_lem d e t =
-        let k = ap (λ (d : Decision). is_done d.answer) (sym e) ∙ t in
-        let a = accepted k in
-        let slot : d.slot ≡ free_slot b = ap (λ (d : Decision). d.slot) e ∙ a.slot in
-        let mark : d.mark ≡ new_number b = ap (λ (d : Decision). d.mark) e ∙ a.mark in
-        outcome-same _ _ (sym a.answer ∙ answer-is) (ap (λ (d : Decision). d.mark) e ∙ mark_is)
-        (ap₂ (λ (i n : ℕ). record {
-          head = raised b.head payer_at c;
-          opened = sets b.opened (i * 160) (new_row c payer_at payee_at n);
-          ended = b.ended;
-        }) slot mark ∙ left_by_lem true k)
+    reserved_lem r e =
+        let f = decided_ok r e in
+        let a = done_accepted f.0 in
+        rw (← f.1, f.0, a.0, a.1.unheld)
+
+    pub refused_lem : (f : Refusal) → decision ≡ Err f → kept b f.answer f.mark ≡ prepared_by b payer payee currency c
+    unfolding prepared_by decided
+    refused_lem f e = go (is_done answer) refl e
+      where
+        go : (t : Bool) → is_done answer ≡ t → ◌≡◌ {A = Result Reservation Refusal}
+            (cond t (Ok reservation) (Err (record { answer = answer; mark = number_or 0 (held_transfer b c.id) }))) (Err f) →
+            kept b f.answer f.mark ≡ record {
+              answer = answer;
+              mark = number_or (cond t (new_number b) 0) (held_transfer b c.id);
+              left = cond t (reserved_by b payer payee c) b;
+            }
+        go true t e = absurd cc
+        go false t e =
+            let g : ◌≡◌ {A = Refusal} (record { answer = answer; mark = number_or 0 (held_transfer b c.id) }) f = cc in
+            rw (← g)

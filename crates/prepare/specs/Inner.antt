@@ -1,6 +1,6 @@
 -- What the inner functions of prepare go by, and what they ask for; no public promise cites these.
-use Rattle.std.specs.Prelude.{ℕ, suc, ◌+◌, ◌*◌, ◌≤◌, ◌<◌, ◌≡◌, Bool, true, cond, not, ◌&&◌, List, [], ◌∷◌, eqb, leb, length, pos, ◌+ℤ◌}
-use Rattle.std.proofs.Math.Option.{Option, none, some}
+use Rattle.std.specs.Prelude.{ℕ, suc, ◌+◌, ◌*◌, ◌≤◌, ◌<◌, ◌≡◌, Bool, cond, not, ◌&&◌, List, [], ◌∷◌, eqb, leb, length, pos, ◌+ℤ◌}
+use Rattle.std.specs.Prelude.{Result, Ok, Err}
 use Rattle.std.proofs.lemmas.List.Edits.{sets}
 use Rattle.std.specs.Int.Signed.{le_z, lt_z}
 use Rattle.octets.specs.Lists.{index, count}
@@ -24,11 +24,12 @@ use Rattle.rules.specs.Calls.{Content as Said, is_of, condition_of, packet_hash}
 use Rattle.rules.specs.Rules.{◌gives◌, first_of, sameℤ, same_content, prepare_rules, number_or}
 use Rattle.shape.specs.Reading.{Book, names_of, transfer_of, held_transfer, is_taken}
 use Rattle.shape.specs.Seen.{seen}
-use Rattle.shape.specs.Sound.{Sound, SoundRecord}
-use Rattle.book.specs.declared.Decision.{Decision}
+use Rattle.shape.specs.Sound.{SoundRecord}
 use Rattle.book.specs.Step.{Outcome}
 use Rattle.book.specs.Inner.{resent}
-use Rattle.prepare.specs.declared.fields.Read.{Read}
+use Rattle.prepare.specs.declared.Accounts.{Accounts}
+use Rattle.prepare.specs.declared.Reservation.{Reservation}
+use Rattle.prepare.specs.declared.Refusal.{Refusal}
 use Rattle.prepare.specs.Effect.{new_number, free_slot, raised}
 
 -- the forms of the parties and the currency, and of the rest
@@ -49,10 +50,6 @@ values_in id amount condition expiration packet = record {
   packet = packet_hash packet;
 }
 
-pub record Told (id amount condition expiration packet : List ℕ) (r : Read) : Type 0 where
-  pub ok : r.ok ≡ texts_fit id amount condition expiration packet
-  pub content : r.ok ≡ true → r.content ≡ values_in id amount condition expiration packet
-
 -- what a prepare says, by the parties' names and its values
 abbrev pub said : List ℕ → List ℕ → Content → Said
 said payer payee c = record {
@@ -71,19 +68,26 @@ same_values r c =
     eqb (amount_of r) (worth c.amount)
     && (same (get condition_field r) c.condition && (sameℤ (expiration_of r) c.expiration && same (get packet_field r) c.packet))
 
+-- a value, or the answer that there is none
+abbrev pub unless : {A : Type 0} → Answer → A → Result A Answer
+unless a v = cond (is_done a) (Ok v) (Err a)
+
 -- a record that a prepare can be compared with
 pub record Comparable (h : Head) (r : Row) (c : Content) : Type 0 where
-  pub long : length r ≡ 160
   pub named : Named h
   pub body : SoundRecord h.count r
   pub amount : InRange c.amount
 
--- a record that holds the id, and the answer on the parties
-abbrev pub on_record : Head → Row → List ℕ → List ℕ → Content → Answer → Decision
+-- the answer on the parties, or else another
+abbrev pub or_else : Result Accounts Answer → Answer → Answer
+or_else (Ok p) a = a
+or_else (Err a) b = a
+
+-- a record that holds the id, and what was answered on the parties
+abbrev pub on_record : Head → Row → List ℕ → List ℕ → Content → Result Accounts Answer → Refusal
 on_record h r payer payee c parties = record {
-  answer = cond (is_done parties) (resent (same_content (transfer_of (names_of h) r).content (said payer payee c))) parties;
+  answer = or_else parties (resent (same_content (transfer_of (names_of h) r).content (said payer payee c)));
   mark = num number_field r;
-  slot = 0;
 }
 
 -- 2, 3, 4, 5, by the account numbers of the parties
@@ -94,6 +98,12 @@ party_rules h payer payee currency p q = first_of (
     ∷ (same payer payee gives PayerIsPayee)
     ∷ (not (same currency h.currency) gives OtherCurrency)
     ∷ []) Done
+
+abbrev pub parties_at : Head → List ℕ → List ℕ → List ℕ → Result Accounts Answer
+parties_at h payer payee currency =
+    let p = place_of h payer in
+    let q = place_of h payee in
+    unless (party_rules h payer payee currency p q) (record { payer = p; payee = q })
 
 -- 7, 8, 9, 10, by the payer's account number
 abbrev pub taken_in : Head → List ℕ → ℕ
@@ -110,19 +120,17 @@ fresh_rules h opened c p = first_of (
     ∷ (passes h p c.amount gives CapPassed)
     ∷ []) Done
 
--- the new number and the lowest free slot, where the answer is 0
-abbrev pub numbered : Head → List ℕ → Answer → Decision
-numbered h opened a = record {
-  answer = a;
-  mark = cond (is_done a) (suc (taken_in h opened + h.finished)) 0;
-  slot = cond (is_done a) (index is_free (rows h.slots opened)) 0;
+-- the lowest free slot and the new number
+abbrev pub reservation_in : Head → List ℕ → Accounts → Reservation
+reservation_in h opened p = record {
+  accounts = p;
+  slot = index is_free (rows h.slots opened);
+  number = suc (taken_in h opened + h.finished);
 }
 
-unfoldable pub fresh_decision : Head → List ℕ → Content → ℕ → Decision
-fresh_decision h opened c p = numbered h opened (fresh_rules h opened c p)
-
-unfoldable pub on_none : Head → List ℕ → Content → ℕ → Answer → Decision
-on_none h opened c p parties = numbered h opened (cond (is_done parties) (fresh_rules h opened c p) parties)
+unfoldable pub new_decision : Head → List ℕ → Result Accounts Answer → Content → Result Reservation Answer
+new_decision h opened (Ok p) c = unless (fresh_rules h opened c p.payer) (reservation_in h opened p)
+new_decision h opened (Err a) c = Err a
 
 -- an account whose position an amount can be added to and then compared with the cap
 pub record CanRise (h : Head) (p : ℕ) (a : Amount) : Type 0 where
@@ -131,23 +139,25 @@ pub record CanRise (h : Head) (p : ℕ) (a : Amount) : Type 0 where
   pub cap : (account_at h p).cap.remainder < 10000
   pub amount : InRange a
 
--- what is decided, by the record that holds the id
-abbrev pub on_id : Book → List ℕ → List ℕ → Content → ℕ → Answer → Option Row → Decision
-on_id b payer payee c p parties none = on_none b.head b.opened c p parties
-on_id b payer payee c p parties (some r) = on_record b.head r payer payee c parties
-
--- a book of the shape, an amount in range, and a payer where nothing was answered on the parties
-pub record Decides (b : Book) (c : Content) (p : ℕ) (parties : Answer) : Type 0 where
-  pub sound : Sound b
-  pub amount : InRange c.amount
-  pub payer : is_done parties ≡ true → p < b.head.count
+-- the payer's account is one, where nothing was answered on the parties
+abbrev pub NewRises : Head → Result Accounts Answer → Amount → Type 0
+NewRises h (Ok p) a = CanRise h p.payer a
+NewRises h (Err e) a = Unit {0}
 
 -- a free slot for a new record
-pub record CanReserve (h : Head) (opened : List ℕ) (c : Content) (p q slot : ℕ) : Type 0 where
-  pub rises : CanRise h p c.amount
-  pub payee : q < 32
-  pub inside : slot * 160 + 160 ≤ length opened
-  pub free : row opened slot ≡ zeros 160
+pub record CanReserve (h : Head) (opened : List ℕ) (c : Content) (r : Reservation) : Type 0 where
+  pub rises : CanRise h r.accounts.payer c.amount
+  pub payee : r.accounts.payee < 32
+  pub inside : r.slot * 160 + 160 ≤ length opened
+  pub free : row opened r.slot ≡ zeros 160
+
+-- what is decided by the rules: where the new record goes, or the answer with the number of the record that has the id
+unfoldable pub decided : Book → List ℕ → List ℕ → List ℕ → Content → Result Reservation Refusal
+decided b payer payee currency c =
+    let a = prepare_rules (seen b) (said payer payee c) currency in
+    cond (is_done a)
+    (Ok (reservation_in b.head b.opened (record { payer = place_of b.head payer; payee = place_of b.head payee })))
+    (Err (record { answer = a; mark = number_or 0 (held_transfer b c.id) }))
 
 -- the book after an accepted prepare, and what a prepare leaves, by its values
 unfoldable pub reserved_by : Book → List ℕ → List ℕ → Content → Book

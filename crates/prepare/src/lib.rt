@@ -3,251 +3,216 @@
 
 mod fields;
 
-ghost use Rattle.std.specs.Prelude.{◌≡◌, true, cond, eqb, ◌+◌, ◌*◌, ◌≤◌, ◌<◌, length};
+ghost use Rattle.std.specs.Prelude.{◌≡◌, ◌*◌, ◌≤◌, ◌<◌, length};
 ghost use Rattle.std.proofs.lemmas.List.Edits.{sets};
 ghost use Rattle.octets.specs.Lists.{count};
 ghost use Rattle.account.specs.Position.{InRange};
+ghost use Rattle.account.specs.Head.{Named};
 ghost use Rattle.record.specs.Layout.{num, new_row, remainder_field};
-ghost use Rattle.record.specs.Rows.{rows};
 ghost use Rattle.rules.specs.declared.Answer.TheVariants.{Done};
-ghost use Rattle.rules.specs.Answers.{is_done};
 ghost use Rattle.rules.specs.Rules.{same_content};
-ghost use Rattle.shape.specs.Reading.{names_of, transfer_of, held_row, is_taken};
+ghost use Rattle.shape.specs.Reading.{names_of, transfer_of, is_taken};
 ghost use Rattle.shape.specs.Sound.{Sound};
 ghost use Rattle.book.specs.Step.{book_of, outcome};
 ghost use Rattle.prepare.specs.Effect.{prepare_step, raised};
-ghost use Rattle.prepare.specs.Inner.{said, same_values, Comparable, on_record, party_rules, passes, CanRise};
-ghost use Rattle.prepare.specs.Inner.{fresh_decision, on_none, on_id, Decides, CanReserve, prepared_by};
+ghost use Rattle.prepare.specs.Inner.{said, same_values, Comparable, on_record, parties_at, passes, CanRise};
+ghost use Rattle.prepare.specs.Inner.{new_decision, NewRises, decided, CanReserve};
 
 use account::Head;
-use book::{Answered, Decision, Place};
-use record::Content;
+use book::Answered;
+use record::{Content, Row};
 use rules::Answer;
 
-fn same_values(part: &[u8], c: Content) -> bool
-    requires { (length part.now ≡ 160) × (num remainder_field part.now < 10000) × InRange c.amount }
-    ensures { result ≡ same_values part.now c }
+/// Who pays whom, and in which currency, as the call names them.
+#[derive(Clone, Copy)]
+struct Parties<'a> {
+    payer: &'a [u8],
+    payee: &'a [u8],
+    currency: &'a [u8],
+}
+
+/// The parties' account numbers.
+#[derive(Clone, Copy)]
+struct Accounts {
+    payer: usize,
+    payee: usize,
+}
+
+/// Where an accepted prepare writes, and what it is answered with.
+#[derive(Clone, Copy)]
+struct Reservation {
+    accounts: Accounts,
+    slot: usize,
+    number: u32,
+}
+
+/// Why nothing is written, and the number of the record that has the id; 0 where none has.
+#[derive(Clone, Copy)]
+struct Refusal {
+    answer: Answer,
+    mark: u32,
+}
+
+fn same_values(row: &Row, c: Content) -> bool
+    requires { (num remainder_field row.now < 10000) × InRange c.amount }
+    ensures { result ≡ same_values row.now c }
 {
-    let held = record::amount_of(part);
-    let amount = c.amount;
-    let condition = c.condition;
-    let packet = c.packet;
-    let same_amount = (held.units == amount.units) & (held.remainder == amount.remainder);
-    let same_time = record::expiration_of(part) == c.expiration;
-    same_amount
-        & (octets::same(&part[40..72], &condition)
-            & (same_time & octets::same(&part[104..136], &packet)))
+    record::amount_of(row) == c.amount
+        && row[40..72] == c.condition[..]
+        && record::expiration_of(row) == c.expiration
+        && row[104..136] == c.packet[..]
 }
 
 // Whether a record is the same transfer: its parties by their names, its values.
-fn same_content(h: Head, part: &[u8], payer: &[u8], payee: &[u8], c: Content) -> bool
-    requires { Comparable h part.now c }
-    ensures { result ≡ same_content (transfer_of (names_of h) part.now).content
-        (said payer.now payee.now c) }
+fn same_content(h: Head, row: &Row, parties: Parties, c: Content) -> bool
+    requires { Comparable h row.now c }
+    ensures { result ≡ same_content (transfer_of (names_of h) row.now).content
+        (said parties.entry.payer.now parties.entry.payee.now c) }
 {
-    let p = record::payer_of(part);
-    let q = record::payee_of(part);
-    let first = h.accounts[p];
-    let second = h.accounts[q];
-    account::is_named(first, payer) & (account::is_named(second, payee) & same_values(part, c))
+    account::is_named(h.accounts[record::payer_of(row)], parties.payer)
+        && account::is_named(h.accounts[record::payee_of(row)], parties.payee)
+        && same_values(row, c)
 }
 
-// A slot counts if its state is not 0.
-fn counted(state: u8) -> usize
-    ensures { (result ≡ cond (eqb state 0) 0 1) × (result ≤ 1) }
+// A slot is taken if its state is not 0.
+fn is_taken(row: &Row) -> bool
+    ensures { result ≡ is_taken row.now }
 {
-    if state == 0 {
-        return 0;
-    }
-    1
+    row[16] != 0
 }
 
-// How many slots of the open book are taken.
-fn taken(opened: &[u8], slots: usize) -> usize
-    requires { slots * 160 ≤ length opened.now }
-    ensures { (result ≡ count is_taken (rows slots opened.now)) × (result ≤ slots) }
+// How many slots are taken.
+fn taken(slots: &[Row]) -> usize
+    ensures { result ≡ count is_taken slots.now }
 {
-    let mut n: usize = 0;
-    let mut k = 0;
-    while k < slots {
-        n += counted(opened[k * 160 + 16]);
-        k += 1;
-    }
-    n
+    slots.iter().filter(|row| is_taken(row)).count()
 }
 
 fn passes_cap(h: Head, payer: usize, c: Content) -> bool
     requires { CanRise h payer c.amount }
     ensures { result ≡ passes h payer c.amount }
 {
-    let a = h.accounts[payer];
-    let before = a.position;
-    let amount = c.amount;
-    let cap = a.cap;
-    !account::at_most(account::raise(before, amount), cap)
+    let payer = h.accounts[payer];
+    !payer.position.raised(c.amount).is_at_most(payer.cap)
 }
 
-// 7, 8, 9, 10.
-fn decide_new(h: Head, opened: &[u8], c: Content, payer: usize) -> Decision
-    requires { (h.slots * 160 ≤ length opened.now) × CanRise h payer c.amount }
-    ensures { result ≡ fresh_decision h opened.now c payer }
+// An id that no book holds: the answer on the parties, or 7, 8, 9, 10.
+fn decide_new(
+    h: Head,
+    opened: &[u8],
+    parties: Result<Accounts, Answer>,
+    c: Content,
+) -> Result<Reservation, Answer>
+    requires { (h.slots * 160 ≤ length opened.now) × NewRises h parties c.amount }
+    ensures { result ≡ new_decision h opened.now parties c }
 {
+    let accounts = parties?;
     if c.expiration <= h.time {
-        return book::decided(Answer::Expired, 0, 0);
+        return Err(Answer::Expired);
     }
-    let slots = h.slots as usize;
-    let open = taken(opened, slots);
-    if slots <= open {
-        return book::decided(Answer::OpenBookFull, 0, 0);
+    let slots = &record::records(opened)[..usize::from(h.slots)];
+    let Some(slot) = record::free_slot(slots) else {
+        return Err(Answer::OpenBookFull);
+    };
+    let records = taken(slots) + usize::from(h.finished);
+    if usize::from(h.places) <= records {
+        return Err(Answer::NoPlaceLeft);
     }
-    let records = open + (h.finished as usize);
-    if (h.places as usize) <= records {
-        return book::decided(Answer::NoPlaceLeft, 0, 0);
+    if passes_cap(h, accounts.payer, c) {
+        return Err(Answer::CapPassed);
     }
-    if passes_cap(h, payer, c) {
-        return book::decided(Answer::CapPassed, 0, 0);
-    }
-    let slot = record::free_slot(opened, slots);
-    let number = (records as u32) + 1;
-    book::decided(Answer::Done, number, slot)
-}
-
-// An id that no book holds: the answer on the parties, or the rest.
-fn on_none(h: Head, opened: &[u8], c: Content, p: usize, parties: Answer) -> Decision
-    requires { (h.slots * 160 ≤ length opened.now) × (is_done parties ≡ true → CanRise h p c.amount) }
-    ensures { result ≡ on_none h opened.now c p parties }
-{
-    if rules::is_done(parties) {
-        return decide_new(h, opened, c, p);
-    }
-    book::decided(parties, 0, 0)
+    Ok(Reservation {
+        accounts,
+        slot,
+        number: records as u32 + 1,
+    })
 }
 
 // An id that a book holds: the answer on the parties, or 24, 6; in any case with that record's number.
 fn on_record(
     h: Head,
-    part: &[u8],
-    payer: &[u8],
-    payee: &[u8],
+    row: &Row,
+    names: Parties,
     c: Content,
-    parties: Answer,
-) -> Decision
-    requires { Comparable h part.now c }
-    ensures { result ≡ on_record h part.now payer.now payee.now c parties }
+    parties: Result<Accounts, Answer>,
+) -> Refusal
+    requires { Comparable h row.now c }
+    ensures { result ≡ on_record h row.now names.entry.payer.now names.entry.payee.now c parties }
 {
-    let number = record::number_of(part);
-    if rules::is_done(parties) {
-        let same = same_content(h, part, payer, payee, c);
-        return book::decided(book::resend(same), number, 0);
+    let answer = match parties {
+        Ok(_) => book::resend(same_content(h, row, names, c)),
+        Err(answer) => answer,
+    };
+    Refusal {
+        answer,
+        mark: record::number_of(row),
     }
-    book::decided(parties, number, 0)
 }
 
-// 2, 3, 4, 5, by the parties' account numbers: the answer, 0 where none of them holds.
-fn decide_parties(
-    h: Head,
-    payer: &[u8],
-    payee: &[u8],
-    currency: &[u8],
-    p: usize,
-    q: usize,
-) -> Answer
-    ensures { result ≡ party_rules h payer.now payee.now currency.now p q }
+// 2, 3, 4, 5; else the parties' account numbers.
+fn decide_parties(h: Head, parties: Parties) -> Result<Accounts, Answer>
+    requires { Named h }
+    ensures { result ≡ parties_at h parties.entry.payer.now parties.entry.payee.now
+        parties.entry.currency.now }
 {
-    let count = h.count as usize;
-    if p == count {
-        return Answer::NoPayer;
+    let Some(payer) = account::place_of(h, parties.payer) else {
+        return Err(Answer::NoPayer);
+    };
+    let Some(payee) = account::place_of(h, parties.payee) else {
+        return Err(Answer::NoPayee);
+    };
+    if parties.payer == parties.payee {
+        return Err(Answer::PayerIsPayee);
     }
-    if q == count {
-        return Answer::NoPayee;
+    if parties.currency != h.currency.as_slice() {
+        return Err(Answer::OtherCurrency);
     }
-    if octets::same(payer, payee) {
-        return Answer::PayerIsPayee;
-    }
-    let own = h.currency;
-    if !octets::same(currency, &own) {
-        return Answer::OtherCurrency;
-    }
-    Answer::Done
+    Ok(Accounts { payer, payee })
 }
 
-// The rest, by where the id is held; p is the payer's account number.
-fn decide_id(
+// 2, 3, 4, 5; 24 or 6 if the id is held; 7, 8, 9, 10.
+fn decide(
     h: Head,
     opened: &[u8],
     ended: &[u8],
-    payer: &[u8],
-    payee: &[u8],
+    names: Parties,
     c: Content,
-    p: usize,
-    parties: Answer,
-) -> Decision
-    requires { Decides (book_of h opened.now ended.now) c p parties }
-    ensures { result ≡ on_id (book_of h opened.now ended.now) payer.now payee.now c p parties
-        (held_row (book_of h opened.now ended.now) c.id) }
+) -> Result<Reservation, Refusal>
+    requires { Sound (book_of h opened.now ended.now) × InRange c.amount }
+    ensures { result ≡ decided (book_of h opened.now ended.now) names.entry.payer.now
+        names.entry.payee.now names.entry.currency.now c }
 {
-    let id = c.id;
-    let place = book::find(h, opened, ended, id);
-    match place {
-        Place::Opened(k) => on_record(h, &opened[k * 160..k * 160 + 160], payer, payee, c, parties),
-        Place::Ended(k) => on_record(h, &ended[k * 160..k * 160 + 160], payer, payee, c, parties),
-        Place::Nowhere => on_none(h, opened, c, p, parties),
-    }
+    let parties = decide_parties(h, names);
+    let Some(place) = book::find(h, opened, ended, c.id) else {
+        return decide_new(h, opened, parties, c).map_err(|answer| Refusal { answer, mark: 0 });
+    };
+    let row = book::record_at(opened, ended, place);
+    Err(on_record(h, row, names, c, parties))
 }
 
 // The payer's position rises, and the record is written from the first byte of its slot.
-fn reserve(
-    h: Head,
-    opened: &mut [u8],
-    c: Content,
-    p: usize,
-    q: usize,
-    slot: usize,
-    number: u32,
-) -> Answered
-    requires { CanReserve h opened.old c p q slot }
-    ensures { (result ≡ record { answer = Done; mark = number; head = raised h p c })
-        × (opened.new ≡ sets opened.old (slot * 160) (new_row c p q number)) }
+fn reserve(h: Head, opened: &mut [u8], c: Content, r: Reservation) -> Answered
+    requires { CanReserve h opened.old c r }
+    ensures { (result ≡ record { answer = Done; mark = r.number; head = raised h r.accounts.payer c })
+        × (opened.new ≡ sets opened.old (r.slot * 160) (new_row c r.accounts.payer r.accounts.payee r.number)) }
 {
-    let a = h.accounts[p];
-    let before = a.position;
-    let amount = c.amount;
-    let position = account::raise(before, amount);
-    let next = account::with_position(h, p, position);
-    let payer = (p % 256) as u8;
-    let payee = (q % 256) as u8;
-    let at = slot * 160;
-    let end = at + 160;
-    record::write_new(&mut opened[at..end], c, payer, payee, number);
-    book::reply(next, Answer::Done, number)
-}
-
-fn settle(
-    h: Head,
-    opened: &mut [u8],
-    ended: &[u8],
-    payer: &[u8],
-    payee: &[u8],
-    currency: &[u8],
-    c: Content,
-) -> Answered
-    requires { Sound (book_of h opened.old ended.now) × InRange c.amount }
-    ensures { outcome result opened.new ended.now ≡ prepared_by (book_of h opened.old ended.now)
-        payer.now payee.now currency.now c }
-{
-    let p = account::place_of(h, payer);
-    let q = account::place_of(h, payee);
-    let parties = decide_parties(h, payer, payee, currency, p, q);
-    let d = decide_id(h, opened, ended, payer, payee, c, p, parties);
-    let answer = d.answer;
-    let mark = d.mark;
-    if rules::is_done(answer) {
-        return reserve(h, opened, c, p, q, d.slot, mark);
-    }
-    book::reply(h, answer, mark)
+    let payer = r.accounts.payer;
+    let payee = r.accounts.payee;
+    let position = h.accounts[payer].position.raised(c.amount);
+    let next = account::with_position(h, payer, position);
+    let at = r.slot * 160;
+    record::write_new(
+        &mut opened[at..at + 160],
+        c,
+        payer as u8,
+        payee as u8,
+        r.number,
+    );
+    book::reply(next, Answer::Done, r.number)
 }
 
 // Prepare: 21, 1, 2, 3, 4, 5; 24 or 6 if the id is held; 7, 8, 9, 10.
+// Head, books and texts come one by one, as a host lends them and as the promise names them.
 pub fn prepare(
     h: Head,
     opened: &mut [u8],
@@ -276,13 +241,16 @@ pub fn prepare(
     if !shape::is_sound(h, opened, ended) {
         return book::reply(h, Answer::OutOfShape, 0);
     }
-    if !fields::names_fit(payer, payee, currency) {
+    let parties = Parties {
+        payer,
+        payee,
+        currency,
+    };
+    let Ok(c) = fields::content(parties, id, amount, condition, expiration, packet) else {
         return book::reply(h, Answer::NotInForm, 0);
+    };
+    match decide(h, opened, ended, parties, c) {
+        Ok(reservation) => reserve(h, opened, c, reservation),
+        Err(refusal) => book::reply(h, refusal.answer, refusal.mark),
     }
-    let read = fields::content(id, amount, condition, expiration, packet);
-    if !read.ok {
-        return book::reply(h, Answer::NotInForm, 0);
-    }
-    let c = read.content;
-    settle(h, opened, ended, payer, payee, currency, c)
 }

@@ -2,28 +2,32 @@
 // hand over is compared there, byte for byte, with a second implementation.
 #![tactic(auto)]
 
-use amount::{Amount, AmountRead};
-use datetime::InstantRead;
-use form::{Verdict, Written};
-use tokens::CodeRead;
+use amount::Amount;
+use form::{Stop, Unwritten};
 
 // A reader's answer to a text of the form; to any other it is the offset.
-const IN_FORM: u64 = 18446744073709551615;
+const IN_FORM: u64 = u64::MAX;
 
-fn place_of(v: Verdict) -> u64 {
-    match v {
-        Verdict::Fits => IN_FORM,
-        Verdict::Stops(n) => n as u64,
+// What a reader answers; a value is taken by its caller.
+fn told<T, F: FnOnce(T)>(read: Result<T, Stop>, take: F) -> u64
+    requires { (value : T) → F.pre take value }
+{
+    match read {
+        Ok(value) => {
+            take(value);
+            IN_FORM
+        }
+        Err(stop) => stop.at as u64,
     }
 }
 
 // 01's number in the low half, the length in the high half.
-fn packed(w: Written) -> u64 {
-    match w {
-        Written::Length(n) => n as u64 % 4294967296 * 4294967296,
-        Written::NotInForm => 1,
-        Written::OutsideYears => 22,
-        Written::NoRoom => 23,
+fn packed(written: Result<usize, Unwritten>) -> u64 {
+    match written {
+        Ok(length) => length as u64 % 4294967296 * 4294967296,
+        Err(Unwritten::NotInForm) => 1,
+        Err(Unwritten::OutsideYears) => 22,
+        Err(Unwritten::NoRoom) => 23,
     }
 }
 
@@ -36,15 +40,10 @@ fn hand_over(value: &[u8], out: &mut [u8]) {
 
 #[unsafe(no_mangle)]
 pub extern "C" fn probe_read_amount(s: &[u8], units: &mut u64, remainder: &mut u16) -> u64 {
-    let read = amount::read_amount(s);
-    match read {
-        AmountRead::Value(a) => {
-            *units = a.units;
-            *remainder = a.remainder;
-            IN_FORM
-        }
-        AmountRead::Refused(n) => n as u64,
-    }
+    told(amount::read_amount(s), |a| {
+        *units = a.units;
+        *remainder = a.remainder;
+    })
 }
 
 #[unsafe(no_mangle)]
@@ -54,16 +53,7 @@ pub extern "C" fn probe_write_amount(units: u64, remainder: u16, out: &mut [u8])
 
 #[unsafe(no_mangle)]
 pub extern "C" fn probe_read_id(s: &[u8], out: &mut [u8]) -> u64 {
-    let read = uuid_text::read_id(s);
-    let verdict = read.verdict;
-    let id = read.id;
-    match verdict {
-        Verdict::Fits => {
-            hand_over(&id, out);
-            IN_FORM
-        }
-        Verdict::Stops(n) => n as u64,
-    }
+    told(uuid_text::read_id(s), |id| hand_over(&id, out))
 }
 
 #[unsafe(no_mangle)]
@@ -73,14 +63,7 @@ pub extern "C" fn probe_write_id(id: &[u8], out: &mut [u8]) -> u64 {
 
 #[unsafe(no_mangle)]
 pub extern "C" fn probe_read_datetime(s: &[u8], ms: &mut i64) -> u64 {
-    let read = datetime::read_datetime(s);
-    match read {
-        InstantRead::Value(v) => {
-            *ms = v;
-            IN_FORM
-        }
-        InstantRead::Refused(n) => n as u64,
-    }
+    told(datetime::read_datetime(s), |instant| *ms = instant)
 }
 
 #[unsafe(no_mangle)]
@@ -90,16 +73,7 @@ pub extern "C" fn probe_write_datetime(ms: i64, out: &mut [u8]) -> u64 {
 
 #[unsafe(no_mangle)]
 pub extern "C" fn probe_read_condition(s: &[u8], out: &mut [u8]) -> u64 {
-    let read = base64url::read_condition(s);
-    let verdict = read.verdict;
-    let value = read.bytes;
-    match verdict {
-        Verdict::Fits => {
-            hand_over(&value, out);
-            IN_FORM
-        }
-        Verdict::Stops(n) => n as u64,
-    }
+    told(base64url::read_condition(s), |value| hand_over(&value, out))
 }
 
 #[unsafe(no_mangle)]
@@ -109,33 +83,25 @@ pub extern "C" fn probe_write_condition(value: &[u8], out: &mut [u8]) -> u64 {
 
 #[unsafe(no_mangle)]
 pub extern "C" fn probe_read_name(s: &[u8]) -> u64 {
-    place_of(tokens::read_name(s))
+    told(tokens::read_name(s), |()| ())
 }
 
 #[unsafe(no_mangle)]
 pub extern "C" fn probe_read_currency(s: &[u8]) -> u64 {
-    place_of(tokens::read_currency(s))
+    told(tokens::read_currency(s), |()| ())
 }
 
 #[unsafe(no_mangle)]
 pub extern "C" fn probe_read_packet(s: &[u8]) -> u64 {
-    place_of(base64url::read_packet(s))
+    told(base64url::read_packet(s), |()| ())
 }
 
 #[unsafe(no_mangle)]
 pub extern "C" fn probe_read_code(s: &[u8], code: &mut u16) -> u64 {
-    let read = tokens::read_code(s);
-    match read {
-        CodeRead::Value(v) => {
-            *code = v;
-            IN_FORM
-        }
-        CodeRead::Refused(n) => n as u64,
-    }
+    told(tokens::read_code(s), |number| *code = number)
 }
 
 #[unsafe(no_mangle)]
 pub extern "C" fn probe_sha256(m: &[u8], out: &mut [u8]) {
-    let digest = sha256::hash(m);
-    hand_over(&digest, out);
+    hand_over(&sha256::hash(m), out);
 }

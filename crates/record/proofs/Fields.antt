@@ -30,24 +30,6 @@ pub num_byte : (at : ℕ) (r : Row) → at < length r → num (bytes at 1) r ≡
 unfolding get number_from
 num_byte at r h = rw (drop-cons r at 0 h) (omega arith)
 
--- the units, as two numbers of four bytes
-pub num_units : (r : Row) → length r ≡ 160 →
-    num units_field r
-    ≡ number (get_or r 24 0 ∷ get_or r 25 0 ∷ get_or r 26 0 ∷ get_or r 27 0 ∷ []) * 2 ^ 32
-    + number (get_or r 28 0 ∷ get_or r 29 0 ∷ get_or r 30 0 ∷ get_or r 31 0 ∷ [])
-unfolding get number_from
-num_units r h =
-    rw (
-      drop-cons r 24 0 (omega arith),
-      drop-cons r 25 0 (omega arith),
-      drop-cons r 26 0 (omega arith),
-      drop-cons r 27 0 (omega arith),
-      drop-cons r 28 0 (omega arith),
-      drop-cons r 29 0 (omega arith),
-      drop-cons r 30 0 (omega arith),
-      drop-cons r 31 0 (omega arith),
-    ) (omega arith)
-
 -- a field of a record that is zero
 pub zero-num : (f : Field) (r : Row) → all_zero r ≡ true → num f r ≡ 0
 unfolding get

@@ -1,11 +1,17 @@
 -- A book as a list of records: its rows one by one, after a store, and as a first part and the rest; and one record lent from it.
 use Prim.Native.Nat.{ℕ, zero, suc, ◌+◌, ◌*◌, ◌-◌, ◌<◌, ◌≤◌}
 use mathlib.Core.Path.{◌≡◌, refl, ap, ap₂, sym, ◌∙◌}
-use mathlib.Core.Bool.{Bool, true, false}
+use mathlib.Core.Bool.{Bool, true, false, not, ◌&&◌}
+use Rattle.std.proofs.Math.Bool.{and_comm}
 use mathlib.Core.List.{List, [], ◌∷◌, ◌++◌}
 use native.Mathlib.Omega.{arith}
 use native.Mathlib.Nat.{zero-add, suc-add}
-use lib.Dec.{leb}
+use lib.Dec.{leb, ltb, eqb}
+use lib.Pointwise.{pointwise}
+use Rattle.std.specs.Prelude.{◌/◌, cond, Some, None, position}
+use Rattle.std.specs.List.{position_or_len}
+use Rattle.std.proofs.Math.Numerals.{one-add}
+use Rattle.std.proofs.lemmas.List.Recursion.{is_position_or_len}
 use lib.ListN.{length, take, drop, get_or, set, length-drop}
 use lib.Seq.{sets, length-sets, take_at, drop_at, drop-drop, get_or-take, get_or-drop}
 use borrow.Author.Tests.{leb-true, leb-false}
@@ -14,8 +20,8 @@ use Rattle.octets.specs.Lists.{index}
 use Rattle.octets.specs.Numbers.{number_from}
 use Rattle.octets.specs.Parts.{part, same, zeros}
 use Rattle.octets.proofs.Lists.{sets-start}
+use Rattle.octets.proofs.Equal.{same_by_pairs}
 use Rattle.octets.proofs.Stores.{length-zeros}
-use Rattle.octets.proofs.Search.{index_hit, index_miss, index-done}
 use Rattle.octets.proofs.Parts.{length_part, take-sets, drop-sets-add, part_stored, part-before, part-behind, part_home, sets_over}
 use Rattle.record.specs.Layout.{Row, get, num, id_field, state_field, is_free, new_row}
 use Rattle.record.specs.declared.Content.{Content}
@@ -130,31 +136,40 @@ row_anew b o v r k anew h n e l f =
     row_home o v k long m ∙ ap (λ (l : List ℕ). sets l (k * 160) v) e ∙ sets_over b r v (k * 160) (omega arith) (omega arith)
     ∙ ap (sets b (k * 160)) g
 
--- the loop that searches a book: its invariant is that no record before k passes
-abbrev pub Searched : (Row → Bool) → ℕ → List ℕ → ℕ → Type 0
-Searched q n b k = (k ≤ n) × (index q (rows n b) ≡ k + index q (drop k (rows n b)))
+-- the place that the library finds is the index, where there is one
+index-library : (q : Row → Bool) (rs : List Row) → index q rs ≡ position_or_len q rs
+index-library q rs = is_position_or_len (index q) q refl (λ r more. rw one-add) rs
 
-pub search_start : (q : Row → Bool) (n : ℕ) (b : List ℕ) → Searched q n b 0
-search_start q n b = (omega arith, sym (zero-add (index q (rows n b))))
+pub position-index : (q : Row → Bool) (rs : List Row) → position q rs ≡ cond (ltb (index q rs) (length rs)) (Some (index q rs)) None
+position-index q rs = rw (index-library q rs)
 
-module _ (q : Row → Bool) (n : ℕ) (b : List ℕ) (k : ℕ) (inv : Searched q n b k) where
-  inside : k < n → k < length (rows n b)
-  inside h = omega (arith, length-rows n b)
+-- what is found among the first n records of a book, and one record of a book
+module _ (b : List ℕ) where
+  whole : (n : ℕ) → n * 160 ≤ length b → n ≤ length b / 160
+  whole n h = omega arith
 
-  pub search_hit : k < n → q (row b k) ≡ true → k ≡ index q (rows n b)
-  search_hit h t = index_hit q (rows n b) k inv.1 [] (inside h) (ap q (rows_at n k b [] h) ∙ t)
+  pub first_rows : (n : ℕ) → n * 160 ≤ length b → take n (rows (length b / 160) b) ≡ rows n b
+  first_rows n h = take-rows n (length b / 160) b (whole n h)
 
-  pub search_miss : k < n → q (row b k) ≡ false → Searched q n b (k + 1)
-  search_miss h t = (omega arith, index_miss q (rows n b) k inv.1 [] (inside h) (ap q (rows_at n k b [] h) ∙ t))
+  pub position-first : (q : Row → Bool) (n : ℕ) → n * 160 ≤ length b →
+      position q (take n (rows (length b / 160) b)) ≡ cond (ltb (index q (rows n b)) n) (Some (index q (rows n b))) None
+  position-first q n h = rw (first_rows n h, position-index q (rows n b), length-rows n b)
 
-  pub search_done : n ≤ k → k ≡ index q (rows n b)
-  search_done h = index-done q (rows n b) k inv.1 (omega (arith, length-rows n b))
+  pub record_at : (k : ℕ) (d : Row) → k * 160 + 160 ≤ length b → get_or (rows (length b / 160) b) k d ≡ row b k
+  record_at k d h = rows_at (length b / 160) k b d (omega arith)
 
 -- the byte that tells a free slot
 pub state_of_lem : (b : List ℕ) (k : ℕ) → k * 160 + 160 ≤ length b → num state_field (row b k) ≡ get_or b (k * 160 + 16) 0
 state_of_lem b k h =
     num_byte 16 (row b k) (omega (arith, length-row b k h)) ∙ get_or-take 160 (drop (k * 160) b) 16 0 (omega arith)
     ∙ get_or-drop (k * 160) b 16 0
+
+-- what is found by an id, as the library compares it
+pub holds_by_bytes : (id : List ℕ) (r : Row) → 16 < length r →
+    holds id r ≡ pointwise eqb (take 16 r) id && not (eqb (get_or r 16 0) 0)
+unfolding holds get
+holds_by_bytes id r h =
+    rw (num_byte 16 r h, same_by_pairs (take 16 r) id) (and_comm (not (eqb (get_or r 16 0) 0)) (same (take 16 r) id))
 
 -- which records are found by an id: a free slot never, and any other by the id that it holds
 pub free_held : (id : List ℕ) (r : Row) → is_free r ≡ true → holds id r ≡ false

@@ -14,8 +14,9 @@ use Rattle.record.proofs.Rows.{length-row}
 use Rattle.rules.specs.Calls.{Text, is_of, in_form, lookup}
 use Rattle.shape.specs.Reading.{Book, names_of, transfer_of, map_some, held_transfer}
 use Rattle.shape.specs.Shape.{shape}
+use Rattle.std.specs.Prelude.{Option, Some, None}
 use Rattle.book.specs.declared.Place.{Place}
-use Rattle.book.specs.declared.Place.TheVariants.{Opened, Ended, Nowhere}
+use Rattle.book.specs.declared.Place.TheVariants.{Opened, Ended}
 use Rattle.book.specs.Inner.{row_at}
 use Rattle.book.proofs.Held.{held_at}
 use Rattle.lookup.specs.Effect.{lookup_place, part_at}
@@ -31,10 +32,10 @@ module _ (b : Book) (e : shape b ≡ true) (w : wide b) (id : Text) where
   abbrev names : List (List ℕ)
   names = names_of b.head
 
-  read_place : (q : Place) → lookup_place b id ≡ q → read_part names (part_at b q) ≡ map_some (transfer_of names) (row_at b q)
-  read_place (Opened k) f = read_row names (row b.opened k) (length-row b.opened k (in_opened b id w k f))
-  read_place (Ended k) f = read_row names (row b.ended k) (length-row b.ended k (in_finished b id w k f))
-  read_place Nowhere f = refl
+  read_place : (q : Option Place) → lookup_place b id ≡ q → read_part names (part_at b q) ≡ map_some (transfer_of names) (row_at b q)
+  read_place (Some (Opened k)) f = read_row names (row b.opened k) (length-row b.opened k (in_opened b id w k f))
+  read_place (Some (Ended k)) f = read_row names (row b.ended k) (length-row b.ended k (in_finished b id w k f))
+  read_place None f = refl
 
   pub looked_up_lem : looked_up b id ≡ cond (in_form (lookup id)) (held_transfer b (id_of id)) none
   looked_up_lem = go (in_form (lookup id)) refl

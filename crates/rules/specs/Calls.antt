@@ -1,10 +1,8 @@
 -- The calls as they come, texts and all, and what their texts say (01, "The switch's part", "Field texts").
-use Rattle.std.specs.Prelude.{ℕ, Bool, true, false, ◌&&◌, List, map, ℤ}
+use Rattle.std.specs.Prelude.{ℕ, Bool, ◌&&◌, List, map, ℤ, is_ok}
 use Rattle.octets.specs.Decimal.{decimal}
 use Rattle.form.specs.Regex.{Re, judge}
 use Rattle.form.specs.Listings.{amount_form, id_form, date_time_form, condition_form, packet_form, name_form, currency_form, code_form}
-use Rattle.form.specs.declared.Verdict.{Verdict}
-use Rattle.form.specs.declared.Verdict.TheVariants.{Fits, Stops}
 use Rattle.amount.specs.Amount.{ten_thousandths}
 use Rattle.uuid_text.specs.Id.{id_of}
 use Rattle.datetime.specs.Instant.{instant_of}
@@ -36,13 +34,9 @@ pub data Call : Type 0 where
   time : (instant : Text) (places : ℕ) → Call
   lookup : (id : Text) → Call
 
-abbrev pub fits : Verdict → Bool
-fits Fits = true
-fits (Stops n) = false
-
 -- a text is of a published form
 abbrev pub is_of : Re → Text → Bool
-is_of form s = fits (judge form s)
+is_of form s = is_ok (judge form s)
 
 -- the answer 1, "a field not in form", is given unless
 abbrev pub in_form : Call → Bool

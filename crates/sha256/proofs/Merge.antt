@@ -1,5 +1,6 @@
 -- Ch as the code computes it: where x has a bit, y's, else z's, by one operation less than the standard's form.
 use Rattle.std.proofs.Common.{◌≡◌, ℕ, zero, suc, ◌-◌, ◌*◌, ◌/◌, ◌%◌, ◌^◌, ◌<◌, refl, pow-suc, arith}
+use Rattle.sha256.specs.Sha256.{Ch}
 use lib.Bits.{bit_and, bit_xor, and_zero_l, and_shr, xor_shr, and_mod, xor_mod}
 
 bit_cases : (P : ℕ → Type 0) → P 0 → P 1 → (n : ℕ) → n < 2 → P n
@@ -21,7 +22,7 @@ merged_bit x y z h k l =
 halves : (a b : ℕ) → a / 2 ^ 1 ≡ b / 2 ^ 1 → a % 2 ^ 1 ≡ b % 2 ^ 1 → a ≡ b
 halves a b e f = omega arith
 
-pub merged : (k x y z : ℕ) → x < 2 ^ k → z < 2 ^ k → Merged (2 ^ k - 1) x y z
+merged : (k x y z : ℕ) → x < 2 ^ k → z < 2 ^ k → Merged (2 ^ k - 1) x y z
 merged zero x y z h l =
     let a : x ≡ 0 = omega arith in
     let b : z ≡ 0 = omega arith in
@@ -33,3 +34,7 @@ merged (suc k) x y z h l =
     halves _ _
     (simp (xor_shr, and_shr, a) (merged k (x / 2 ^ 1) (y / 2 ^ 1) (z / 2 ^ 1) (omega arith) (omega arith)))
     (simp (xor_mod, and_mod, b) (merged_bit (x % 2 ^ 1) (y % 2 ^ 1) (z % 2 ^ 1) (omega arith) (omega arith) (omega arith)))
+
+-- the code's form is the standard's
+pub chosen : (x y z : ℕ) → x < 2 ^ 32 → z < 2 ^ 32 → bit_xor z (bit_and x (bit_xor y z)) ≡ Ch x y z
+chosen x y z h l = merged 32 x y z h l

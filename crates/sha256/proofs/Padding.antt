@@ -1,6 +1,6 @@
 -- The end of the padded message, as the code makes it, and how it joins the whole blocks.
-use Rattle.std.proofs.Common.{◌≡◌, ℕ, suc, ◌+◌, ◌-◌, ◌*◌, ◌/◌, ◌%◌, ◌^◌, ◌<◌, ◌≤◌, List, ◌∷◌, ◌++◌, length, get_or, take, drop, set, sym, ap, ◌∙◌, append_assoc, add-one, arith, length-append, length-drop, length-take-le, get_or-drop, take_all, drop-cons, take-suc}
-use lib.Seq.{take-append-add, drop-append-le, set_at, append_snoc}
+use Rattle.std.proofs.Common.{◌≡◌, ℕ, suc, ◌+◌, ◌-◌, ◌*◌, ◌/◌, ◌%◌, ◌^◌, ◌<◌, ◌≤◌, List, ◌∷◌, ◌++◌, length, get_or, take, drop, set, sym, ap, ◌∙◌, append_assoc, arith, length-append, length-drop, drop-cons}
+use lib.Seq.{take-append-add, drop-append-le, set_at}
 use lib.Seq.{sets}
 use Rattle.octets.specs.Numbers.{big_endian}
 use Rattle.octets.specs.Parts.{zeros}
@@ -12,36 +12,23 @@ use Rattle.sha256.specs.Sha256.{zero_count, pad, H0, absorb, joined, sha256}
 use Rattle.sha256.specs.Parts.{wholes, rest, padded_length}
 use Rattle.sha256.proofs.Turns.{absorb-add, absorb-front}
 
--- one byte more of the part of m from a place on is copied into zeros
-pub copy_step : (m o : List ℕ) (from i n : ℕ) → o ≡ take i (drop from m) ++ drop i (zeros n) → from + i < length m → i < n →
-    set o i (get_or m (from + i) 0) ≡ take (i + 1) (drop from m) ++ drop (i + 1) (zeros n)
-copy_step m o from i n e h l =
-    let s = drop from m in
-    let a : i < length s = simp length-drop (omega arith) in
-    let b : i < length (zeros n) = omega (arith, length-zeros n) in
-    let d : length (take i s) ≡ i = length-take-le i s (omega arith) in
-    let after = drop (suc i) (zeros n) in
-    rw (e, ← get_or-drop from m i 0, add-one i, take-suc s i 0 a, drop-cons (zeros n) i 0 b)
-    (set_at (take i s) (get_or (zeros n) i 0) after (get_or s i 0) i d ∙ sym (append_snoc (take i s) (get_or s i 0) after))
-
--- the mark is put behind the rest of m
-pub mark_step : (m o : List ℕ) (i n : ℕ) → o ≡ take i (rest m) ++ drop i (zeros n) → i ≡ length m - wholes (length m) → i < n →
-    set o (length m - wholes (length m)) 0x80 ≡ rest m ++ (0x80 ∷ zeros (n - 1 - length (rest m)))
-mark_step m o i n e f h =
-    let l : length (rest m) ≡ i = length-drop (wholes (length m)) m ∙ sym f in
-    let a : i < length (zeros n) = omega (arith, length-zeros n) in
-    let b : length (rest m) ≤ i = omega arith in
-    let g : n - suc i ≡ n - 1 - length (rest m) = omega arith in
-    rw (← f, e, take_all i (rest m) b, drop-cons (zeros n) i 0 a, drop-zeros (suc i) n, g)
-    (set_at (rest m) (get_or (zeros n) i 0) (zeros (n - 1 - length (rest m))) 0x80 i l)
+-- the mark is put behind the rest of a message
+pub marked_rest : (r : List ℕ) (n : ℕ) → length r < n →
+    set (r ++ drop (length r) (zeros n)) (length r) 0x80 ≡ r ++ (0x80 ∷ zeros (n - 1 - length r))
+marked_rest r n h =
+    let a : length r < length (zeros n) = omega (arith, length-zeros n) in
+    let here : length r ≡ length r = λ i. length r in
+    let b : n - suc (length r) ≡ n - 1 - length r = omega arith in
+    rw (drop-cons (zeros n) (length r) 0 a, drop-zeros (suc (length r)) n, b)
+    (set_at r (get_or (zeros n) (length r) 0) (zeros (n - 1 - length r)) 0x80 (length r) here)
 
 -- the count is stored before the end
-pub count-end : (b o : List ℕ) (size n : ℕ) → o ≡ sets b (size - 8) (big_endian 8 (n % 2 ^ 61 * 8)) → 8 ≤ size → size ≤ length b →
+pub count_end : (b o : List ℕ) (size n : ℕ) → o ≡ sets b (size - 8) (big_endian 8 (n * 8 % 2 ^ 64)) → 8 ≤ size → size ≤ length b →
     take size o ≡ take (size - 8) b ++ big_endian 8 (8 * n)
-count-end b o size n e h l =
+count_end b o size n e h l =
     let count = big_endian 8 (8 * n) in
-    let d : n % 2 ^ 61 * 8 ≡ (8 * n) % 2 ^ 64 = omega arith in
-    let low : big_endian 8 (n % 2 ^ 61 * 8) ≡ count = rw d (big_endian_low 8 0 (8 * n)) in
+    let d : n * 8 ≡ 8 * n = omega arith in
+    let low : big_endian 8 (n * 8 % 2 ^ 64) ≡ count = rw d (big_endian_low 8 0 (8 * n)) in
     let k = length-big_endian 8 (8 * n) in
     rw (e, low) (take_stored b count (size - 8) size (omega arith) (omega arith))
 
@@ -80,9 +67,8 @@ absorb-padded m s t e =
 
 -- the digest, from what the parts of the code give: the initial value, the whole blocks, the end in b, its blocks, the bytes
 pub parts_hashed : (m b : List ℕ) (size : ℕ) {start whole v r : List ℕ} → start ≡ H0 → whole ≡ absorb (length m / 64) start m →
-    take size b ≡ drop (wholes (length m)) (pad m) → v ≡ absorb (length (take (size - 0) b) / 64) whole (take (size - 0) b) →
+    take size b ≡ drop (wholes (length m)) (pad m) → v ≡ absorb (length (take size b) / 64) whole (take size b) →
     r ≡ joined 8 v → r ≡ sha256 m
 unfolding sha256
 parts_hashed m b size e f g h k =
-    let a : size - 0 ≡ size = omega arith in
-    rw (k, h, a, f, e, absorb-padded m H0 (take size b) g)
+    rw (k, h, f, e, absorb-padded m H0 (take size b) g)

@@ -2,14 +2,13 @@
 ghost use Rattle.std.specs.Prelude.{◌≡◌};
 ghost use Rattle.sha256.specs.Sha256.{joined};
 
+#[tactic(auto, using(crate::proofs::Turns::joined_none, crate::proofs::Turns::joined_step, crate::proofs::Turns::joined_all))]
 pub(crate) fn bytes_of(s: [u32; 8]) -> [u8; 32]
     ensures { result ≡ joined 8 s }
 {
     let mut out = [0u8; 32];
-    let mut i: usize = 0;
-    while i < 8 {
-        octets::put_number(&mut out, 4 * i, s[i] as u64, 4);
-        i += 1;
+    for i in 0..8 {
+        octets::put_number(&mut out, 4 * i, u64::from(s[i]), 4);
     }
     out
 }

@@ -15,9 +15,8 @@ mod tail; // the end of the padded message
 pub fn hash(message: &[u8]) -> [u8; 32]
     ensures { result ≡ sha256 message.now }
 {
-    let k = rounds::K;
-    let whole = rounds::absorbed(rounds::start(), &k, message);
+    let whole = rounds::absorbed(rounds::start(), message);
     let size = tail::size(message.len());
     let end = tail::made(message, size);
-    digest::bytes_of(rounds::absorbed(whole, &k, &end[0..size]))
+    digest::bytes_of(rounds::absorbed(whole, &end[..size]))
 }

@@ -6,10 +6,11 @@ fn rotated(x: u32, n: u32) -> u32
     requires { (0 < n) × (n < 32) }
     ensures { result ≡ ROTR n x }
 {
-    (x >> n) | (x << (32 - n))
+    x.rotate_right(n)
 }
 
 // In the form that takes an operation less and no complement.
+#[tactic(auto, using(crate::proofs::Merge::chosen))]
 pub(crate) fn ch(x: u32, y: u32, z: u32) -> u32
     ensures { result ≡ Ch x y z }
 {

@@ -12,7 +12,8 @@ pub(crate) fn size(n: usize) -> usize
     if n % 64 < 56 { 64 } else { 128 }
 }
 
-// The end of the padded message, as the first size bytes.
+// The end of the padded message, as the first size bytes: one block or two, in memory of a fixed length.
+#[tactic(auto, using(crate::proofs::Padding::end_made))]
 pub(crate) fn made(message: &[u8], size: usize) -> [u8; 128]
     requires { wholes (length message.now) + size ≡ padded_length (length message.now) }
     ensures { take size result ≡ drop (wholes (length message.now)) (pad message.now) }
@@ -24,25 +25,20 @@ pub(crate) fn made(message: &[u8], size: usize) -> [u8; 128]
 fn marked(message: &[u8]) -> [u8; 128]
     ensures { result ≡ rest message.now ++ (0x80 ∷ zeros (127 - length (rest message.now))) }
 {
-    let from = 64 * (message.len() / 64);
-    let left = message.len() - from;
+    let left = message.as_chunks::<64>().1;
     let mut out = [0u8; 128];
-    let mut i: usize = 0;
-    while i < left {
-        out[i] = message[from + i];
-        i += 1;
-    }
-    out[left] = 0x80;
+    out[..left.len()].copy_from_slice(left);
+    out[left.len()] = 0x80;
     out
 }
 
 // The count of the bits of n bytes in the last 8 of the first size bytes: modulo 2^64, so that no length makes the product wrap.
-fn counted(b: [u8; 128], size: usize, n: usize) -> [u8; 128]
+#[tactic(auto, using(crate::proofs::Padding::count_end))]
+fn counted(mut b: [u8; 128], size: usize, n: usize) -> [u8; 128]
     requires { (8 ≤ size) × (size ≤ 128) }
     ensures { take size result ≡ take (size - 8) b ++ big_endian 8 (8 * n) }
 {
-    let bits = (n as u64) % 0x2000_0000_0000_0000 * 8;
-    let mut out = b;
-    octets::put_number(&mut out, size - 8, bits, 8);
-    out
+    let bits = (n as u64).wrapping_mul(8);
+    octets::put_number(&mut b, size - 8, bits, 8);
+    b
 }

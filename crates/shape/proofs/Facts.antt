@@ -25,34 +25,6 @@ use Rattle.shape.specs.Shape.{lengths_ok, account_ok, record_ok, open_ok, ended_
 use Rattle.shape.specs.Scan.{reserved_ok}
 use Rattle.shape.specs.Sound.{SoundAccount, SoundRecord, SoundReserved, SoundSlot, SoundEnded, SoundLengths}
 
--- at most 10^17 units, told by the units and the remainder
-module _ (units remainder : ℕ) where
-  abbrev cap_test : Bool
-  cap_test = ltb units 100000000000000000 || (eqb units 100000000000000000 && eqb remainder 0)
-
-  abbrev capped : Bool
-  capped = leb (units * 10000 + remainder) highest_cap
-
-  cap_by : (a b c : Bool) → ltb units 100000000000000000 ≡ a → eqb units 100000000000000000 ≡ b → eqb remainder 0 ≡ c →
-      remainder < 10000 → a || (b && c) ≡ capped
-  cap_by true b c e f g h = sym (le-leb (units * 10000 + remainder) highest_cap (omega (arith, ltb-true units 100000000000000000 e)))
-  cap_by false true true e f g h =
-      sym (le-leb (units * 10000 + remainder) highest_cap (omega (arith, eqb-true units 100000000000000000 f, eqb-true remainder 0 g)))
-  cap_by false true false e f g h =
-      sym (lt-leb (units * 10000 + remainder) highest_cap (omega (arith, eqb-true units 100000000000000000 f, eqb-false remainder 0 g)))
-  cap_by false false c e f g h =
-      sym (lt-leb (units * 10000 + remainder) highest_cap
-      (omega (arith, ltb-false units 100000000000000000 e, eqb-false units 100000000000000000 f)))
-
-  pub cap_told : cap_test && ltb remainder 10000 ≡ capped && ltb remainder 10000
-  cap_told = go (ltb remainder 10000) refl
-    where
-      go : (t : Bool) → ltb remainder 10000 ≡ t → cap_test && t ≡ capped && t
-      go true e =
-          ap (λ (b : Bool). b && true) (cap_by (ltb units 100000000000000000) (eqb units 100000000000000000) (eqb remainder 0)
-          refl refl refl (ltb-true remainder 10000 e))
-      go false e = and-false cap_test ∙ sym (and-false capped)
-
 -- a position is at most as much where the units above zero are
 pub position-told : (z : ℤ) (remainder : ℕ) →
     leb (up z * 10000 + remainder) highest_cap && ltb remainder 10000

@@ -2,6 +2,5 @@ pub mod Facts
 pub mod Bounds
 pub mod Names
 pub mod Slots
-pub mod Finished
 pub mod Together
 pub mod Sound

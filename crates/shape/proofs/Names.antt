@@ -1,15 +1,18 @@
 -- No name twice, told by each name against those before it.
-use Prim.Native.Nat.{ℕ, ◌+◌, ◌<◌, ◌≤◌}
+use Prim.Native.Nat.{ℕ, zero, suc, ◌+◌, ◌<◌, ◌≤◌}
 use mathlib.Core.Path.{◌≡◌, refl, ap, ap₂, sym, ◌∙◌}
 use mathlib.Core.Bool.{Bool, true, false, false≢true, not, ◌&&◌}
-use mathlib.Core.List.{List, [], ◌∷◌, ◌++◌}
+use mathlib.Core.List.{List, [], ◌∷◌, ◌++◌, map}
 use native.Mathlib.Omega.{arith}
 use native.Mathlib.Numerals.{add-one}
 use lib.ListN.{length, take, drop, get_or, take-append-drop, get_or-map, length-map}
-use lib.Seq.{take-suc, get_or-take, length-take-le}
+use lib.Seq.{take-suc, take_all, take-take, get_or-take, length-take-le}
+use Rattle.std.specs.List.{list_all, range_with_len}
+use Rattle.std.proofs.lemmas.List.{take-map}
+use Rattle.account.specs.declared.Account.{Account}
 use Rattle.octets.specs.Lists.{all}
 use Rattle.octets.specs.Parts.{same}
-use Rattle.octets.proofs.Tests.{and-false}
+use Rattle.octets.proofs.Tests.{and-true, and-false, and_assoc}
 use Rattle.octets.proofs.Walk.{all_append}
 use Rattle.account.specs.declared.Head.{Head}
 use Rattle.account.specs.Head.{name_of, accounts_of, account_at, no_account}
@@ -29,26 +32,9 @@ none-snoc (n ∷ ns) name =
     ap₂ ◌&&◌ (all_append (λ m. not (same m n)) ns (name ∷ [])) (none-snoc ns name)
     ∙ regroup (all (λ m. not (same m n)) ns) (not (same name n)) (none_twice ns) (is_new ns name)
 
--- a name that stands twice among the first stands twice
-none-front : (names more : List (List ℕ)) → none_twice names ≡ false → none_twice (names ++ more) ≡ false
-none-front [] more e = absurd (false≢true (sym e))
-none-front (n ∷ ns) more e =
-    ap (λ (t : Bool). t && none_twice (ns ++ more)) (all_append (λ m. not (same m n)) ns more)
-    ∙ go (all (λ m. not (same m n)) ns) (all (λ m. not (same m n)) more) (none_twice ns) refl e (none-front ns more)
-  where
-    go : (a b t : Bool) → none_twice ns ≡ t → a && t ≡ false → (none_twice ns ≡ false → none_twice (ns ++ more) ≡ false) →
-        (a && b) && none_twice (ns ++ more) ≡ false
-    go true b t e f next = rw (next (e ∙ f)) (and-false (true && b))
-    go false b t e f next = refl
-
 module _ (names : List (List ℕ)) (k : ℕ) (h : k < length names) where
   pub none_more : none_twice (take (k + 1) names) ≡ none_twice (take k names) && is_new (take k names) (get_or names k [])
   none_more = rw (add-one k, take-suc names k [] h) (none-snoc (take k names) (get_or names k []))
-
-  pub none_fails : is_new (take k names) (get_or names k []) ≡ false → none_twice names ≡ false
-  none_fails e =
-      ap none_twice (sym (take-append-drop (k + 1) names))
-      ∙ none-front (take (k + 1) names) (drop (k + 1) names) (none_more ∙ rw e (and-false (none_twice (take k names))))
 
 -- the names of a head
 module _ (h : Head) (long : length h.accounts ≡ 32) (few : h.count ≤ 32) where
@@ -64,10 +50,32 @@ account_at_lem h k l = get_or-take h.count h.accounts k no_account l
 pub name_at : (h : Head) (k : ℕ) → k < h.count → get_or (names_of h) k [] ≡ name_of (account_at h k)
 name_at h k l = get_or-map name_of (accounts_of h) k no_account ∙ ap name_of (account_at_lem h k l)
 
--- the names before the one at k
-module _ (h : Head) (long : length h.accounts ≡ 32) (few : h.count ≤ 32) (k : ℕ) (l : k < h.count) where
-  pub length_early : length (take k (names_of h)) ≡ k
-  length_early = length-take-le k (names_of h) (omega (arith, length-names h long few))
+-- the name is compared with those of the accounts before
+module _ (h : Head) (k : ℕ) (front : k ≤ h.count) where
+  names_before : take k (names_of h) ≡ map name_of (take k h.accounts)
+  names_before = take-map name_of k (accounts_of h) ∙ ap (map name_of) (take-take k h.count h.accounts front)
 
-  pub early_at : (j : ℕ) → j < k → get_or (take k (names_of h)) j [] ≡ name_of (account_at h j)
-  early_at j i = get_or-take k (names_of h) j [] i ∙ name_at h j (omega arith)
+  pub new_by_list : (name : List ℕ) → list_all (λ b. not (same name (name_of b))) (take k h.accounts) ≡ is_new (take k (names_of h)) name
+  new_by_list name = go (take k h.accounts) ∙ ap (λ (names : List (List ℕ)). is_new names name) (sym names_before)
+    where
+      go : (xs : List Account) → list_all (λ b. not (same name (name_of b))) xs ≡ is_new (map name_of xs) name
+      go [] = refl
+      go (x ∷ xs) = rw (go xs)
+
+-- no name twice, told by each name in its turn
+module _ (h : Head) (long : length h.accounts ≡ 32) (few : h.count ≤ 32) where
+  abbrev pub new_at : ℕ → Bool
+  new_at k = is_new (take k (names_of h)) (name_of (account_at h k))
+
+  none-from : (m k : ℕ) → k + m ≡ h.count →
+      none_twice (take k (names_of h)) && list_all new_at (range_with_len k m) ≡ none_twice (names_of h)
+  none-from zero k e =
+      and-true (none_twice (take k (names_of h))) ∙ ap none_twice (take_all k (names_of h) (omega (arith, length-names h long few)))
+  none-from (suc m) k e =
+      sym (and_assoc (none_twice (take k (names_of h))) (new_at k) (list_all new_at (range_with_len (k + 1) m)))
+      ∙ ap (λ (t : Bool). t && list_all new_at (range_with_len (k + 1) m))
+      (rw (← name_at h k (omega arith)) (sym (none_more (names_of h) k (omega (arith, length-names h long few)))))
+      ∙ none-from m (k + 1) (omega arith)
+
+  pub none_by_list : list_all new_at (range_with_len 0 h.count) ≡ none_twice (names_of h)
+  none_by_list = none-from h.count 0 (omega arith)

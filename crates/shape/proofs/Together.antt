@@ -1,30 +1,34 @@
 -- The shape by the parts of the pass, and what the parts tell each other.
-use Prim.Native.Nat.{ℕ, ◌+◌, ◌*◌, ◌<◌, ◌≤◌}
+use Prim.Native.Nat.{ℕ, suc, ◌+◌, ◌-◌, ◌*◌, ◌/◌, ◌<◌, ◌≤◌, ◌^◌}
 use mathlib.Core.Path.{◌≡◌, refl, ap, sym, ◌∙◌}
 use mathlib.Core.Bool.{Bool, true, false, cond, ◌&&◌}
 use mathlib.Core.List.{List}
 use native.Mathlib.Omega.{arith}
-use lib.Dec.{leb}
+use lib.Dec.{leb, eqb}
 use lib.ListN.{length, length-take, drop}
-use lib.IntN.{pos}
-use borrow.Author.Tests.{leb-true, leb-false}
+use lib.IntN.{ℤ, pos, negsuc}
+use lib.Signed.{mag}
+use mir.Syntax.{w128}
+use mir.Val.{to_z, of_z}
+use mir.Facts.{to_z_pos}
+use borrow.Author.Tests.{leb-true, leb-false, eq-eqb, ne_eqb}
 use Rattle.octets.specs.Lists.{all, count, sum}
 use Rattle.octets.specs.Parts.{all_zero}
 use Rattle.octets.proofs.Tests.{and-true, and-false, both}
 use Rattle.octets.proofs.Walk.{all-at}
 use Rattle.account.specs.declared.Head.{Head}
 use Rattle.account.specs.Head.{accounts_of, account_at, no_account, Named}
-use Rattle.record.specs.Layout.{Row, num, amount_of, remainder_field, units_field}
+use Rattle.record.specs.Layout.{Row, amount_of}
 use Rattle.record.specs.Rows.{rows}
 use Rattle.rules.specs.Rules.{sameℤ}
-use Rattle.shape.specs.declared.records.Held.{Held}
 use Rattle.shape.specs.Reading.{Book, names_of, is_taken}
 use Rattle.shape.specs.Shape.{shape, lengths_ok, account_ok, none_twice, open_ok, ended_ok, total}
-use Rattle.shape.specs.Scan.{accounts_ok, Judged, held_in_book, not_ok, most_reserved, open_book_ok, ended_book_ok}
+use Rattle.shape.specs.declared.records.Held.{Held}
+use Rattle.std.specs.Prelude.{Option, Some, None}
+use Rattle.shape.specs.Scan.{accounts_ok, Judged, Sized, held_in_book, open_book_ok, ended_book_ok}
 use Rattle.shape.specs.Sound.{SoundAccount}
 use Rattle.shape.proofs.Facts.{account_sound}
 use Rattle.shape.proofs.Names.{length_accounts, account_at_lem}
-use Rattle.shape.proofs.Bounds.{too_much, amounts_split}
 
 regroup : (l c a n o e z p s : Bool) →
     l && (c && (a && (n && (o && (e && (z && (p && s))))))) ≡ l && ((c && (a && n)) && ((o && (p && s)) && (e && z)))
@@ -66,64 +70,53 @@ judged_named h long j = record { few = j.few; short = λ k l. (judged_at h long 
 pub few_accounts : (h : Head) → h.count ≤ 32 → length (accounts_of h) ≤ 32
 few_accounts h few = omega (arith, length-take h.count h.accounts)
 
--- what the open book holds
-pub record InBook (accounts : ℕ) (rs : List Row) (s : Held) : Type 0 where
-  pub each : all (open_ok accounts) rs ≡ true
-  pub taken : s.taken ≡ count is_taken rs
-  pub units : s.units ≡ sum (num units_field) rs
-  pub remainder : s.remainder ≡ sum (num remainder_field) rs
-  pub most : s.units ≤ most_reserved
+-- a sum of positions beside a sum of amounts, by their bits
+pub same_bits : (z : ℤ) (n : ℕ) → mag z < 2 ^ 127 → n < 2 ^ 127 → eqb (of_z w128 z) (of_z w128 (to_z w128 n)) ≡ sameℤ z (pos n)
+same_bits (pos a) n h k = rw (to_z_pos w128 k) (go (leb a n) refl (leb n a) refl)
+  where
+    go : (s : Bool) → leb a n ≡ s → (t : Bool) → leb n a ≡ t → eqb a n ≡ s && t
+    go true e true f = eq-eqb a n (omega (arith, leb-true a n e, leb-true n a f))
+    go true e false f = ne_eqb a n (λ g. omega (arith, leb-false n a f, g))
+    go false e t f = ne_eqb a n (λ g. omega (arith, leb-false a n e, g))
+same_bits (negsuc a) n h k = rw (to_z_pos w128 k) (ne_eqb (2 ^ 128 - suc a) n (λ e. omega arith))
 
-module _ (accounts : ℕ) (rs : List Row) (s : Held) (e : s ≡ held_in_book accounts rs) where
-  book_by : (t : Bool) →
-      s ≡ cond t (record { ok = true; taken = count is_taken rs; units = sum (num units_field) rs; remainder = sum (num remainder_field) rs }) not_ok →
-      s.ok ≡ t
-  book_by true g = ap (λ (x : Held). x.ok) g
-  book_by false g = ap (λ (x : Held). x.ok) g
+-- a book of so many slots
+pub all_slots : (slots : ℕ) (book : List ℕ) → Sized slots book → rows (length book / 160) book ≡ rows slots book
+all_slots slots book sized = let e : length book / 160 ≡ slots = omega (arith, sized.long) in ap (λ (n : ℕ). rows n book) e
 
-  pub book-told : s.ok ≡ all (open_ok accounts) rs && leb (sum (num units_field) rs) most_reserved
-  unfolding held_in_book
-  book-told = book_by (all (open_ok accounts) rs && leb (sum (num units_field) rs) most_reserved) e
+-- the open book beside the head, by what its slots hold
+module _ (h : Head) (opened : List ℕ) (sized : Sized h.slots opened) where
+  pub open_wrong : None ≡ held_in_book h.count (rows (length opened / 160) opened) → false ≡ open_book_ok h opened
+  unfolding held_in_book open_book_ok
+  open_wrong e = go (all (open_ok h.count) rs) refl (e ∙ ap (held_in_book h.count) (all_slots h.slots opened sized))
+    where
+      rs : List Row
+      rs = rows h.slots opened
 
-  pub book_right : s.ok ≡ true → InBook accounts rs s
-  unfolding held_in_book
-  book_right f =
-      let t : all (open_ok accounts) rs && leb (sum (num units_field) rs) most_reserved ≡ true = sym book-told ∙ f in
-      let p = both (all (open_ok accounts) rs) (leb (sum (num units_field) rs) most_reserved) t in
-      let g = rw t at e in
-      let u = ap (λ (x : Held). x.units) g in
-      record {
-        each = p.0;
-        taken = ap (λ (x : Held). x.taken) g;
-        units = u;
-        remainder = ap (λ (x : Held). x.remainder) g;
-        most = omega (arith, leb-true (sum (num units_field) rs) most_reserved p.1);
-      }
+      found : Option Held
+      found = Some (record { taken = count is_taken rs; reserved = sum amount_of rs })
 
--- the open book beside the head
-module _ (h : Head) (opened : List ℕ) (s : Held) where
-  -- a slot not of the shape, or more reserved than positions sum to
-  pub open_wrong : Judged h → s ≡ held_in_book h.count (rows h.slots opened) → s.ok ≡ false → open_book_ok h opened ≡ false
-  unfolding open_book_ok
-  open_wrong j e f = go (all (open_ok h.count) rs) refl
+      go : (t : Bool) → all (open_ok h.count) rs ≡ t → None ≡ cond t found None →
+          false ≡ t && (leb (count is_taken rs + h.finished) h.places && sameℤ (total (accounts_of h)) (pos (sum amount_of rs)))
+      go true t f = cc
+      go false t f = refl
+
+  pub open_right : (held : Held) → Some held ≡ held_in_book h.count (rows (length opened / 160) opened) →
+      leb (held.taken + h.finished) h.places && sameℤ (total (accounts_of h)) (pos held.reserved) ≡ open_book_ok h opened
+  unfolding held_in_book open_book_ok
+  open_right held e = go (all (open_ok h.count) rs) refl (e ∙ ap (held_in_book h.count) (all_slots h.slots opened sized))
     where
       rs : List Row
       rs = rows h.slots opened
 
       go : (t : Bool) → all (open_ok h.count) rs ≡ t →
-          t && (leb (count is_taken rs + h.finished) h.places && sameℤ (total (accounts_of h)) (pos (sum amount_of rs))) ≡ false
-      go false t = refl
-      go true t =
-          let g : leb (sum (num units_field) rs) most_reserved ≡ false =
-          sym (ap (λ (b : Bool). b && leb (sum (num units_field) rs) most_reserved) t) ∙ sym (book-told h.count rs s e) ∙ f in
-          let l = leb-false (sum (num units_field) rs) most_reserved g in
-          let n = too_much (accounts_of h) (sum amount_of rs) (few_accounts h j.few) j.each (omega (arith, amounts_split rs)) in
-          rw n (and-false (leb (count is_taken rs + h.finished) h.places))
-
-  pub open_right : InBook h.count (rows h.slots opened) s →
-      leb (s.taken + h.finished) h.places && sameℤ (total (accounts_of h)) (pos (s.units * 10000 + s.remainder)) ≡ open_book_ok h opened
-  unfolding open_book_ok
-  open_right i = rw (i.each, i.taken, i.units, i.remainder, amounts_split (rows h.slots opened))
+          Some held ≡ cond t (Some (record { taken = count is_taken rs; reserved = sum amount_of rs })) None →
+          leb (held.taken + h.finished) h.places && sameℤ (total (accounts_of h)) (pos held.reserved)
+          ≡ t && (leb (count is_taken rs + h.finished) h.places && sameℤ (total (accounts_of h)) (pos (sum amount_of rs)))
+      go true t f =
+          let g : held ≡ record { taken = count is_taken rs; reserved = sum amount_of rs } = cc in
+          rw (ap (λ (x : Held). x.taken) g, ap (λ (x : Held). x.reserved) g)
+      go false t f = cc
 
 pub open_room : (h : Head) (opened : List ℕ) → open_book_ok h opened ≡ true → h.finished ≤ h.places
 unfolding open_book_ok

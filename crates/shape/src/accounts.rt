@@ -10,40 +10,24 @@ ghost use Rattle.shape.specs.Reading.{names_of};
 ghost use Rattle.shape.specs.Shape.{account_ok, none_twice};
 ghost use Rattle.shape.specs.Scan.{accounts_ok, is_new};
 
-use crate::balance::units_above;
-use account::{Account, Head};
-use form::Verdict;
+use account::{Account, HIGHEST_CAP, Head};
 
-// Whether the first n bytes of a place are a name.
-fn name_ok(place: [u8; 32], n: usize) -> bool
-    ensures { result ≡ leb n 32 && is_of name_form (take n place) }
+// Whether the first bytes of its place are a name.
+fn name_ok(a: Account) -> bool
+    ensures { result ≡ leb a.length 32 && is_of name_form (name_of a) }
 {
-    if n > 32 {
-        return false;
-    }
-    match tokens::read_name(&place[0..n]) {
-        Verdict::Fits => true,
-        Verdict::Stops(_) => false,
-    }
+    a.length <= 32 && tokens::read_name(&a.name[..usize::from(a.length)]).is_ok()
 }
 
-// At most 10^17 units, and a remainder below 10,000.
-fn cap_ok(units: u64, remainder: u16) -> bool
-    ensures { result ≡ leb (units * 10000 + remainder) highest_cap && ltb remainder 10000 }
-{
-    ((units < 100000000000000000) | ((units == 100000000000000000) & (remainder == 0)))
-        & (remainder < 10000)
-}
-
+#[tactic(auto, unfolding(crate::specs::Shape::account_ok))]
 fn account_ok(a: Account) -> bool
     ensures { result ≡ account_ok a }
 {
-    let place = a.name;
-    let cap = a.cap;
-    let position = a.position;
-    let above = units_above(position);
-    name_ok(place, a.length as usize)
-        & (cap_ok(cap.units, cap.remainder) & cap_ok(above, position.remainder))
+    name_ok(a)
+        && a.cap <= HIGHEST_CAP
+        && a.cap.remainder < 10000
+        && a.position.remainder < 10000
+        && a.position.is_at_most(HIGHEST_CAP)
 }
 
 // Whether each account in use is in form.
@@ -51,16 +35,9 @@ fn all_in_form(h: Head) -> bool
     requires { h.count ≤ 32 }
     ensures { result ≡ all account_ok (accounts_of h) }
 {
-    let count = h.count as usize;
-    let mut k = 0;
-    while k < count {
-        let a = h.accounts[k];
-        if !account_ok(a) {
-            return false;
-        }
-        k += 1;
-    }
-    true
+    h.accounts[..usize::from(h.count)]
+        .iter()
+        .all(|a| account_ok(*a))
 }
 
 // Whether two accounts have one name.
@@ -68,11 +45,7 @@ fn same_names(a: Account, b: Account) -> bool
     requires { (a.length ≤ 32) × (b.length ≤ 32) }
     ensures { result ≡ same (name_of a) (name_of b) }
 {
-    let left = a.name;
-    let right = b.name;
-    let m = a.length as usize;
-    let n = b.length as usize;
-    octets::same(&left[0..m], &right[0..n])
+    account::is_named(a, &b.name[..usize::from(b.length)])
 }
 
 // Whether an account's name is none of those before it.
@@ -81,15 +54,7 @@ fn is_new(h: Head, k: usize) -> bool
     ensures { result ≡ is_new (take k (names_of h)) (name_of (account_at h k)) }
 {
     let a = h.accounts[k];
-    let mut j = 0;
-    while j < k {
-        let b = h.accounts[j];
-        if same_names(a, b) {
-            return false;
-        }
-        j += 1;
-    }
-    true
+    h.accounts[..k].iter().all(|b| !same_names(a, *b))
 }
 
 // Whether all names differ.
@@ -97,26 +62,13 @@ fn none_twice(h: Head) -> bool
     requires { Named h }
     ensures { result ≡ none_twice (names_of h) }
 {
-    let count = h.count as usize;
-    let mut k = 0;
-    while k < count {
-        if !is_new(h, k) {
-            return false;
-        }
-        k += 1;
-    }
-    true
+    (0..usize::from(h.count)).all(|k| is_new(h, k))
 }
 
 // Whether the accounts are of the shape.
+#[tactic(auto, using(crate::proofs::Together::judged_named), unfolding(crate::specs::Scan::accounts_ok))]
 pub(crate) fn all_ok(h: Head) -> bool
     ensures { result ≡ accounts_ok h }
 {
-    if 32 < h.count {
-        return false;
-    }
-    if !all_in_form(h) {
-        return false;
-    }
-    none_twice(h)
+    h.count <= 32 && (all_in_form(h) && none_twice(h))
 }

@@ -5,9 +5,9 @@ mod accounts;
 mod balance;
 mod records;
 
-ghost use Rattle.std.specs.Prelude.{◌≡◌};
+ghost use Rattle.std.specs.Prelude.{◌≡◌, ◌≤◌};
 ghost use Rattle.shape.specs.Shape.{shape, lengths_ok};
-ghost use Rattle.shape.specs.Scan.{open_book_ok, Sized, Judged};
+ghost use Rattle.shape.specs.Scan.{open_book_ok, Sized};
 
 use account::Head;
 
@@ -15,40 +15,36 @@ use account::Head;
 fn lengths_ok(h: Head, opened: &[u8], ended: &[u8]) -> bool
     ensures { result ≡ lengths_ok (record { head = h; opened = opened.now; ended = ended.now }) }
 {
-    let slots = h.slots as usize;
-    let places = h.places as usize;
-    (opened.len() == slots * 160)
-        & ((1 <= slots)
-            & ((slots <= 1024)
-                & ((ended.len() == places * 160) & ((1 <= places) & (places <= 65535)))))
+    // "An open book (1 to 1,024 records) and a finished book (1 to 65,535)" (01); the places are sixteen bits, so at most 65,535.
+    let slots = usize::from(h.slots);
+    let places = usize::from(h.places);
+    opened.len() == slots * 160
+        && 1 <= slots
+        && slots <= 1024
+        && ended.len() == places * 160
+        && 1 <= places
 }
 
 // The open book beside the head: its slots, the places that its transfers will want, and the balance.
 fn open_ok(h: Head, opened: &[u8]) -> bool
-    requires { Sized h.slots opened.now × Judged h }
+    requires { Sized h.slots opened.now × (h.count ≤ 32) }
     ensures { result ≡ open_book_ok h opened.now }
 {
-    let held = records::scan_open(opened, h.slots as usize, h.count);
-    if !held.ok {
+    let Some(held) = records::scan_open(record::records(opened), h.count) else {
         return false;
-    }
-    let places = h.places as usize;
-    let finished = h.finished as usize;
-    (held.taken + finished <= places) & balance::sums_to(h, held.units, held.remainder)
+    };
+    let places = usize::from(h.places);
+    let finished = usize::from(h.finished);
+    held.taken + finished <= places && balance::total(h) == held.reserved.cast_signed()
 }
 
-// Whether the head and the two books fit each other and are of the shape.
+/// Whether the head and the two books fit each other and are of the shape.
+#[tactic(auto, using(crate::proofs::Together::together))]
 pub fn is_sound(h: Head, opened: &[u8], ended: &[u8]) -> bool
     ensures { result ≡ shape (record { head = h; opened = opened.now; ended = ended.now }) }
 {
-    if !lengths_ok(h, opened, ended) {
-        return false;
-    }
-    if !accounts::all_ok(h) {
-        return false;
-    }
-    if !open_ok(h, opened) {
-        return false;
-    }
-    records::ended_ok(ended, h.finished as usize, h.count)
+    lengths_ok(h, opened, ended)
+        && (accounts::all_ok(h)
+            && (open_ok(h, opened)
+                && records::ended_book_ok(ended, usize::from(h.finished), h.count)))
 }

@@ -1,19 +1,16 @@
 -- What a part of the input does: every line that has its newline is answered in turn, and the rest waits for its own.
 use Rattle.std.specs.Prelude.{ℕ, Bool, true, false, cond, List, [], ◌∷◌, ltb, length}
-use Rattle.account.specs.declared.Head.{Head}
 use Rattle.shape.specs.Reading.{Book}
-use Rattle.book.specs.Step.{book_of}
-use Rattle.switch.specs.declared.State.{State}
-use Rattle.switch.specs.declared.Window.{Window}
-use Rattle.switch.specs.Switch.{answered}
+use Rattle.switch.specs.declared.Switch.{Switch}
+use Rattle.switch.specs.Switch.{answered, book}
 
 -- what stands between two lines
 pub record Standing : Type 0 where
   pub book : Book
   pub list : List ℕ
 
-abbrev pub standing : Head → List ℕ → List ℕ → List ℕ → Standing
-standing h opened ended list = record { book = book_of h opened ended; list = list }
+abbrev pub standing : Switch → Standing
+standing s = record { book = book s; list = s.list }
 
 abbrev pub after : Standing → List ℕ → Standing
 after k line = record { book = (answered k.book k.list line).left; list = (answered k.book k.list line).list }
@@ -31,17 +28,10 @@ through_lines skips k [] = record { stands = k; skips = skips; rest = [] }
 through_lines skips k (rest ∷ []) = record { stands = k; skips = skips; rest = rest }
 through_lines skips k (line ∷ next ∷ more) = through_lines false (after k (cond skips [] line)) (next ∷ more)
 
--- what the code holds, beside the bytes that were lent
-abbrev pub waiting : State → List ℕ → List ℕ → List ℕ → List ℕ → Waiting
-waiting s opened ended list rest = record { stands = standing s.head opened ended list; skips = s.skips; rest = rest }
+-- what the program holds, beside the rest of the input
+abbrev pub waiting : Switch → List ℕ → Waiting
+waiting s rest = record { stands = standing s; skips = s.skips; rest = rest }
 
 -- "at most 33,000 bytes": a rest that fills the buffer and has no newline is the start of a line that is too long
 abbrev pub bounded : ℕ → Waiting → Waiting
 bounded size w = cond (ltb (length w.rest) size) w (record { stands = w.stands; skips = true; rest = [] })
-
-abbrev pub kept_by : Bool → State → ℕ → Window
-kept_by true s have = record { state = s; have = have; more = true }
-kept_by false s have = record { state = record { head = s.head; used = s.used; skips = true }; have = 0; more = true }
-
-abbrev pub kept_of : State → ℕ → ℕ → Window
-kept_of s have size = kept_by (ltb have size) s have

@@ -1,13 +1,12 @@
 -- A line in, a line out: what the answer to a line prints, and what the line leaves.
-use Rattle.std.specs.Prelude.{ℕ, ◌≤◌, ◌≡◌, false, List, length, take}
+use Rattle.std.specs.Prelude.{ℕ, ◌≡◌, false, List}
 use Rattle.rules.specs.Answers.{number, code}
 use Rattle.shape.specs.Reading.{Book}
 use Rattle.book.specs.Step.{book_of}
 use Rattle.lines.specs.Lines.{words_of}
 use Rattle.desk.specs.Desk.{LineOutcome, line_step}
 use Rattle.answer_line.specs.Text.{answer_text}
-use Rattle.switch.specs.declared.State.{State}
-use Rattle.switch.specs.declared.Told.{Told}
+use Rattle.switch.specs.declared.Switch.{Switch}
 
 -- the book and the list that a line leaves, and the line that is printed
 pub record Printed : Type 0 where
@@ -25,18 +24,16 @@ printed o = record {
 unfoldable pub answered : Book → List ℕ → List ℕ → Printed
 answered b list line = printed (line_step b list (words_of line))
 
--- what the code hands back, beside the bytes that were lent
-abbrev pub told_of : Told → List ℕ → List ℕ → List ℕ → List ℕ → Printed
-told_of t opened ended list text = record { left = book_of t.head opened ended; list = list; text = take t.length text }
+-- the book that the program holds
+abbrev pub book : Switch → Book
+book s = book_of s.head s.opened s.ended
 
--- the output has room for the longest answer
-pub record Ready (s : State) (out : List ℕ) : Type 0 where
-  pub used : s.used ≤ 4096
-  pub room : 8192 ≤ length out
+-- what the program holds after a line, beside the text of the answer
+abbrev pub printed_of : Switch → List ℕ → Printed
+printed_of s text = record { left = book s; list = s.list; text = text }
 
--- the state after a line: the book and the list are those that the line leaves
-pub record Served (p : Printed) (s : State) (opened ended list out : List ℕ) : Type 0 where
-  pub left : book_of s.head opened ended ≡ p.left
-  pub numbers : list ≡ p.list
-  pub ready : Ready s out
+-- after a line: the book and the list are those that the line leaves
+pub record Served (p : Printed) (s : Switch) : Type 0 where
+  pub left : book s ≡ p.left
+  pub numbers : s.list ≡ p.list
   pub skips : s.skips ≡ false

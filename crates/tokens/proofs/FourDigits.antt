@@ -1,18 +1,15 @@
 -- The value of an abort code, at its four places.
-use mathlib.Core.Path.{◌≡◌, sym, ap, ◌∙◌}
+use mathlib.Core.Path.{◌≡◌, refl, ap, ◌∙◌}
 use mathlib.Core.List.{List, [], ◌∷◌}
-use Prim.Native.Nat.{ℕ, ◌≤◌}
+use Prim.Native.Nat.{ℕ, zero, suc, ◌+◌, ◌-◌, ◌*◌, ◌≤◌, ◌<◌}
 use native.Mathlib.Omega.{arith}
-use lib.ListN.{length}
+use lib.ListN.{length, take, get_or}
 use Rattle.octets.specs.Decimal.{decimal}
 use Rattle.form.specs.Regex.{judge}
 use Rattle.form.specs.Listings.{code_form}
 use Rattle.form.specs.Matches.{Matches, nothing, one, joined}
 use Rattle.form.proofs.Meaning.{fits}
-use Rattle.form.specs.declared.Verdict.{Verdict}
-use Rattle.form.specs.declared.Verdict.TheVariants.{Fits, Stops}
-use Rattle.tokens.specs.Code.{at_four_places, answer, read_code}
-use Rattle.tokens.specs.declared.CodeRead.TheVariants.{Value, Refused}
+use Rattle.form.specs.Verdict.{of_form}
 
 -- four digits, the first not 0
 pub record FourDigits (s : List ℕ) : Type 0 where
@@ -36,7 +33,7 @@ matched (joined u v e (one a h₁ k₁) (joined x y f (one b h₂ k₂) (joined 
       others = (h₂, k₂, h₃, k₃, h₄, k₄);
     }
 
-module _ (s : List ℕ) (e : judge code_form s ≡ Fits) where
+module _ (s : List ℕ) (e : judge code_form s ≡ of_form) where
   pub digits : FourDigits s
   digits = matched ((fits code_form s).0 e)
 
@@ -47,15 +44,21 @@ module _ (s : List ℕ) (e : judge code_form s ≡ Fits) where
   pub four_long : length s ≡ 4
   four_long = ap length digits.text
 
--- the value at the four places
-pub value : (s : List ℕ) → judge code_form s ≡ Fits → at_four_places s ≡ decimal s
-value s e = rw (digits s e).text (omega arith)
+-- one digit more: it is a digit, the number so far has less than four, and they make the next number
+pub record Digit (s : List ℕ) (i : ℕ) : Type 0 where
+  pub above : 48 ≤ get_or s i 0
+  pub below : get_or s i 0 ≤ 57
+  pub small : decimal (take i s) ≤ 999
+  pub next : decimal (take (i + 1) s) ≡ decimal (take i s) * 10 + (get_or s i 0 - 48)
 
--- what the reader answers
-pub read : (s : List ℕ) (v : Verdict) (n : ℕ) → v ≡ judge code_form s → v ≡ Fits → n ≡ at_four_places s → Value n ≡ read_code s
-unfolding read_code
-read s v n e f g = ap Value (g ∙ value s (sym e ∙ f)) ∙ ap (λ (w : Verdict). answer w (decimal s)) (sym f ∙ e)
+digit_of : (s : List ℕ) → FourDigits s → (i : ℕ) → i < 4 → Digit s i
+digit_of s f zero h = rw f.text (record { above = omega (arith, f.first); below = f.first.1; small = omega arith; next = refl })
+digit_of s f (suc zero) h = rw f.text (record { above = f.others.0; below = f.others.1; small = omega (arith, f.first); next = refl })
+digit_of s f (suc (suc zero)) h =
+    rw f.text (record { above = f.others.2; below = f.others.3; small = omega (arith, f.first, f.others); next = refl })
+digit_of s f (suc (suc (suc zero))) h =
+    rw f.text (record { above = f.others.4; below = f.others.5; small = omega (arith, f.first, f.others); next = refl })
+digit_of s f (suc (suc (suc (suc i)))) h = absurd (omega arith)
 
-pub refusal : (s : List ℕ) (v : Verdict) (n : ℕ) → v ≡ judge code_form s → v ≡ Stops n → Refused n ≡ read_code s
-unfolding read_code
-refusal s v n e f = ap (λ (w : Verdict). answer w (decimal s)) (sym f ∙ e)
+pub digit_at : (s : List ℕ) → judge code_form s ≡ of_form → (i : ℕ) → i < length s → Digit s i
+digit_at s e i h = digit_of s (digits s e) i (omega (arith, four_long s e))

@@ -1,3 +1,2 @@
-pub mod Name
-pub mod RowOfBytes
+pub mod Rows
 pub mod FourDigits

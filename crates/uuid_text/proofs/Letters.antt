@@ -13,7 +13,7 @@ use Rattle.octets.proofs.Computed.{both, both_left, both_right, implies, implied
 use Rattle.octets.proofs.Lists.{byte-at}
 use Rattle.form.specs.Regex.{judge}
 use Rattle.form.specs.Listings.{id_form}
-use Rattle.form.specs.declared.Verdict.TheVariants.{Fits}
+use Rattle.form.specs.Verdict.{of_form}
 use Rattle.form.proofs.Meaning.{fits}
 use Rattle.form.proofs.Same.{same}
 use Rattle.form.proofs.Words.{id_words}
@@ -31,17 +31,17 @@ pub id_row : (s : List ℕ) → Bytes s → judge id_form s ≡ row_from may_sta
 unfolding id_words
 id_row s b = judges_as may_stand 0 id_form (after id_form id_words) is-row s b
 
-pub form_bytes : (s : List ℕ) → judge id_form s ≡ Fits → Bytes s
+pub form_bytes : (s : List ℕ) → judge id_form s ≡ of_form → Bytes s
 form_bytes s e = matched_bytes ((fits id_form s).0 e) tt
 
-pub letters : (s : List ℕ) → judge id_form s ≡ Fits → (length s ≡ 36) × Passed may_stand 36 s
+pub letters : (s : List ℕ) → judge id_form s ≡ of_form → (length s ≡ 36) × Passed may_stand 36 s
 letters s e = row-passed may_stand 36 0 s (sym (id_row s (form_bytes s e)) ∙ e)
 
 -- what the class says at each place, as a test q that follows from it, computed over the places below n and all bytes
 abbrev follows : ℕ → (ℕ → ℕ) → (ℕ → ℕ → Bool) → Bool
 follows n place q = below n (λ k. both (ltb (place k) 36) (below 256 (λ c. implies (may_stand (place k) c) (q k c))))
 
-at_place : (s : List ℕ) → judge id_form s ≡ Fits → (n : ℕ) (place : ℕ → ℕ) (q : ℕ → ℕ → Bool) → T (follows n place q) → (k : ℕ) → k < n →
+at_place : (s : List ℕ) → judge id_form s ≡ of_form → (n : ℕ) (place : ℕ → ℕ) (q : ℕ → ℕ → Bool) → T (follows n place q) → (k : ℕ) → k < n →
     T (q k (get_or s (place k) 0))
 at_place s e n place q t k h =
     let rule : ℕ → ℕ → Bool = λ j c. implies (may_stand (place j) c) (q j c) in
@@ -63,7 +63,7 @@ abbrev pub variant_rule : ℕ → Bool
 variant_rule c = leb 8 (hex_value c) && leb (hex_value c) 11
 
 -- digits at the places of the bytes, dashes before some of them, version and variant
-module _ (s : List ℕ) (e : judge id_form s ≡ Fits) where
+module _ (s : List ℕ) (e : judge id_form s ≡ of_form) where
   pub high_hex : (k : ℕ) → k < 16 → T (is_hex (get_or s (place_of k) 0))
   high_hex = at_place s e 16 place_of (λ k c. is_hex c) tt
 

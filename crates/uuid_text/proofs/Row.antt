@@ -12,8 +12,7 @@ use Rattle.octets.specs.Bytes.{Bytes}
 use Rattle.octets.proofs.Computed.{both, both_left, both_right, below, below_at}
 use Rattle.octets.proofs.Tests.{is_false}
 use Rattle.form.specs.Regex.{Re, nullable, alive, deriv, judge_from}
-use Rattle.form.specs.declared.Verdict.{Verdict}
-use Rattle.form.specs.declared.Verdict.TheVariants.{Fits, Stops}
+use Rattle.form.specs.Verdict.{Verdict, of_form, stops_at}
 use Rattle.form.proofs.Same.{same, same-eq}
 use Rattle.form.proofs.Steps.{is_true}
 
@@ -26,10 +25,10 @@ next p = λ i. p (suc i)
 
 -- m places are to come, after n bytes
 abbrev pub row_from : Row → ℕ → ℕ → List ℕ → Verdict
-row_from p zero n [] = Fits
-row_from p zero n (c ∷ cs) = Stops n
-row_from p (suc m) n [] = Stops n
-row_from p (suc m) n (c ∷ cs) = cond (p 0 c) (row_from (next p) m (suc n) cs) (Stops n)
+row_from p zero n [] = of_form
+row_from p zero n (c ∷ cs) = stops_at n
+row_from p (suc m) n [] = stops_at n
+row_from p (suc m) n (c ∷ cs) = cond (p 0 c) (row_from (next p) m (suc n) cs) (stops_at n)
 
 -- a byte of the class leads to what is left after it, and no other goes on
 abbrev leads_by : Bool → Re → Re → Bool
@@ -47,7 +46,7 @@ is_row p r [] = at_end r
 is_row p r (rest ∷ more) = both (at_place p r rest) (is_row (next p) rest more)
 
 step : (t : Bool) (d rest : Re) (n : ℕ) (cs : List ℕ) (v : Verdict) → T (leads_by t d rest) → judge_from rest (suc n) cs ≡ v →
-    cond (alive d) (judge_from d (suc n) cs) (Stops n) ≡ cond t v (Stops n)
+    cond (alive d) (judge_from d (suc n) cs) (stops_at n) ≡ cond t v (stops_at n)
 step true d rest n cs v x e =
     rw (is_true (alive d) (both_left (alive d) (same d rest) x))
     (ap (λ (z : Re). judge_from z (suc n) cs) (same-eq d rest (both_right (alive d) (same d rest) x)) ∙ e)
@@ -81,35 +80,35 @@ module _ (p : Row) (k c : ℕ) (cs : List ℕ) where
   and-later e f zero h = e
   and-later e f (suc i) h = f i (omega arith)
 
-pub row_fits : (p : Row) (m n : ℕ) (s : List ℕ) → length s ≡ m → Passed p m s → row_from p m n s ≡ Fits
+pub row_fits : (p : Row) (m n : ℕ) (s : List ℕ) → length s ≡ m → Passed p m s → row_from p m n s ≡ of_form
 row_fits p zero n [] e f = refl
 row_fits p zero n (c ∷ cs) e f = absurd (omega arith)
 row_fits p (suc m) n [] e f = absurd (omega arith)
 row_fits p (suc m) n (c ∷ cs) e f =
     rw (f 0 (omega arith)) (row_fits (next p) m (suc n) cs (omega arith) (later p m c cs f))
 
-pub row-passed : (p : Row) (m n : ℕ) (s : List ℕ) → row_from p m n s ≡ Fits → (length s ≡ m) × Passed p m s
+pub row-passed : (p : Row) (m n : ℕ) (s : List ℕ) → row_from p m n s ≡ of_form → (length s ≡ m) × Passed p m s
 row-passed p zero n [] e = (refl, λ i h. absurd (omega arith))
 row-passed p zero n (c ∷ cs) e = absurd (let z : ◌≡◌ {A = ℕ} 0 1 = cc in omega arith)
 row-passed p (suc m) n [] e = absurd (let z : ◌≡◌ {A = ℕ} 0 1 = cc in omega arith)
 row-passed p (suc m) n (c ∷ cs) e = go (p 0 c) refl (row-passed (next p) m (suc n) cs) e
   where
-    go : (t : Bool) → p 0 c ≡ t → (row_from (next p) m (suc n) cs ≡ Fits → (length cs ≡ m) × Passed (next p) m cs) →
-        cond t (row_from (next p) m (suc n) cs) (Stops n) ≡ Fits → (length (c ∷ cs) ≡ suc m) × Passed p (suc m) (c ∷ cs)
+    go : (t : Bool) → p 0 c ≡ t → (row_from (next p) m (suc n) cs ≡ of_form → (length cs ≡ m) × Passed (next p) m cs) →
+        cond t (row_from (next p) m (suc n) cs) (stops_at n) ≡ of_form → (length (c ∷ cs) ≡ suc m) × Passed p (suc m) (c ∷ cs)
     go true f ih g = let r = ih g in (ap suc r.0, and-later p m c cs f r.1)
     go false f ih g = absurd (let z : ◌≡◌ {A = ℕ} 0 1 = cc in omega arith)
 
 -- k is the first place at which the text does not go on
 pub row-stops : (p : Row) (m n k : ℕ) (s : List ℕ) → k ≤ m → k ≤ length s → Passed p k s →
-    (k < m → k < length s → p k (get_or s k 0) ≡ false) → ((k ≡ m) → (length s ≡ m) → ⊥) → row_from p m n s ≡ Stops (n + k)
+    (k < m → k < length s → p k (get_or s k 0) ≡ false) → ((k ≡ m) → (length s ≡ m) → ⊥) → row_from p m n s ≡ stops_at (n + k)
 row-stops p zero n zero [] h l f w e = absurd (e refl refl)
-row-stops p zero n zero (c ∷ cs) h l f w e = ap Stops (sym (add-zero n))
-row-stops p (suc m) n zero [] h l f w e = ap Stops (sym (add-zero n))
-row-stops p (suc m) n zero (c ∷ cs) h l f w e = rw (w (omega arith) (omega arith)) (ap Stops (sym (add-zero n)))
+row-stops p zero n zero (c ∷ cs) h l f w e = ap (λ (k : ℕ). stops_at k) (sym (add-zero n))
+row-stops p (suc m) n zero [] h l f w e = ap (λ (k : ℕ). stops_at k) (sym (add-zero n))
+row-stops p (suc m) n zero (c ∷ cs) h l f w e = rw (w (omega arith) (omega arith)) (ap (λ (k : ℕ). stops_at k) (sym (add-zero n)))
 row-stops p zero n (suc k) s h l f w e = absurd (omega arith)
 row-stops p (suc m) n (suc k) [] h l f w e = absurd (omega arith)
 row-stops p (suc m) n (suc k) (c ∷ cs) h l f w e =
     rw (f 0 (omega arith))
     (row-stops (next p) m (suc n) k cs (omega arith) (omega arith) (later p k c cs f) (λ x y. w (omega arith) (omega arith))
     (λ x y. e (ap suc x) (ap suc y))
-    ∙ ap Stops (suc-add n k ∙ sym (add-suc n k)))
+    ∙ ap (λ (k : ℕ). stops_at k) (suc-add n k ∙ sym (add-suc n k)))

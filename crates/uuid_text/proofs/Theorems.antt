@@ -23,13 +23,13 @@ use Rattle.form.specs.Regex.{Re, judge}
 use Rattle.form.specs.Listings.{id_form}
 use Rattle.form.specs.Matches.{Matches}
 use Rattle.form.specs.Writing.{into_room}
-use Rattle.form.specs.declared.Verdict.{Verdict}
-use Rattle.form.specs.declared.Verdict.TheVariants.{Fits, Stops}
-use Rattle.form.specs.declared.Written.TheVariants.{Length, NotInForm, NoRoom}
+use Rattle.form.specs.Verdict.{Verdict, of_form, value_by}
+use Rattle.std.specs.Prelude.{Ok, Err}
+use Rattle.form.specs.Writing.{Written}
+use Rattle.form.specs.declared.Unwritten.TheVariants.{NotInForm, NoRoom}
 use Rattle.form.proofs.Meaning.{fits}
 use Rattle.form.proofs.Same.{same}
 use Rattle.form.proofs.Steps.{left, leads, Ends, on, is_true}
-use Rattle.uuid_text.specs.declared.IdRead.{IdRead}
 use Rattle.uuid_text.specs.Id.{
   dash_before,
   place_of,
@@ -37,7 +37,6 @@ use Rattle.uuid_text.specs.Id.{
   hex_char,
   byte_at,
   id_of,
-  answer,
   read_id,
   pair_text,
   byte_text,
@@ -63,7 +62,7 @@ use Rattle.uuid_text.proofs.Letters.{
 use Rattle.uuid_text.proofs.Spelled.{step}
 
 abbrev Reads : List ℕ → List ℕ → Type 0
-Reads s b = ◌≡◌ {A = IdRead} (read_id s) (record { verdict = Fits; id = b })
+Reads s b = read_id s ≡ Ok b
 
 -- the written text is of the form: what is left of it after the text of each byte
 abbrev left_at : ℕ → Re
@@ -126,7 +125,7 @@ module _ (b : List ℕ) (e : in_form b ≡ true) where
           (to_test variant)
       go false f false g = tt
 
-  pub text-fits : Bytes b → judge id_form (id_text b) ≡ Fits
+  pub text-fits : Bytes b → judge id_form (id_text b) ≡ of_form
   unfolding text_before
   text-fits small = ap (judge id_form) (text-from b) ∙ ends_from b small rules 16 0 refl 0
 
@@ -206,21 +205,21 @@ value_back b l small =
     (λ i h. let k : i < 16 = omega (arith, length-build f 16) in build_at f 16 i k ∙ byte_back b small i k)
 
 -- what the reader makes of the verdict
-reads_fits : (s b : List ℕ) → Reads s b → (judge id_form s ≡ Fits) × (id_of s ≡ b)
+reads_fits : (s b : List ℕ) → Reads s b → (judge id_form s ≡ of_form) × (id_of s ≡ b)
 unfolding read_id
 reads_fits s b e = go (judge id_form s) refl e
   where
-    go : (v : Verdict) → judge id_form s ≡ v → ◌≡◌ {A = IdRead} (answer v (id_of s)) (record { verdict = Fits; id = b }) →
-        (judge id_form s ≡ Fits) × (id_of s ≡ b)
-    go Fits f g = (f, ap (λ (r : IdRead). r.id) g)
-    go (Stops n) f g = absurd (let z : ◌≡◌ {A = ℕ} 0 1 = cc (ap (λ (r : IdRead). r.verdict) g) in omega arith)
+    go : (v : Verdict) → judge id_form s ≡ v → value_by v (id_of s) ≡ Ok b →
+        (judge id_form s ≡ of_form) × (id_of s ≡ b)
+    go (Ok u) f g = (f, cc)
+    go (Err e) f g = absurd (let z : ◌≡◌ {A = ℕ} 0 1 = cc in omega arith)
 
-fits_reads : (s : List ℕ) → judge id_form s ≡ Fits → Reads s (id_of s)
+fits_reads : (s : List ℕ) → judge id_form s ≡ of_form → Reads s (id_of s)
 unfolding read_id
-fits_reads s e = ap (λ (v : Verdict). answer v (id_of s)) e
+fits_reads s e = ap (λ (v : Verdict). value_by v (id_of s)) e
 
 -- what a text of the form says of the bytes
-module _ (s : List ℕ) (e : judge id_form s ≡ Fits) where
+module _ (s : List ℕ) (e : judge id_form s ≡ of_form) where
   halves : (k : ℕ) → k < 16 → (byte_at s k / 16 ≡ hex_value (get_or s (place_of k) 0)) × (byte_at s k % 16 ≡ hex_value (get_or s (place_of k + 1)
       0)) × (byte_at s k < 256)
   unfolding byte_at
@@ -334,24 +333,24 @@ pub round : (b : List ℕ) → in_form b ≡ true → Bytes b → Reads (id_text
 round b e small =
     let f = text-fits b e small in
     let l : length b ≡ 16 = eqb→eq (length b) 16 (to_test (only_if (eqb (length b) 16) _ e).0) in
-    (fits_reads (id_text b) f ∙ (λ i. record { verdict = Fits; id = value_back b l small i }), (fits id_form (id_text b)).0 f)
+    (fits_reads (id_text b) f ∙ ap Ok (value_back b l small), (fits id_form (id_text b)).0 f)
 
 -- unique: the written text is the only one that reads to its bytes
 pub unique : (s b : List ℕ) → Reads s b → s ≡ id_text b
 unique s b r = let f = reads_fits s b r in sym (text-is s f.0) ∙ ap id_text f.1
 
 -- refused: the writer refuses with 1 exactly the bytes that no text reads to
-pub refused : (b : List ℕ) → Bytes b → (room : ℕ) → ((write_id b room ≡ NotInForm) ↔ ((s : List ℕ) → Reads s b → ⊥))
+pub refused : (b : List ℕ) → Bytes b → (room : ℕ) → ((write_id b room ≡ Err NotInForm) ↔ ((s : List ℕ) → Reads s b → ⊥))
 unfolding write_id
 refused b small room = go (in_form b) refl
   where
-    go : (t : Bool) → in_form b ≡ t → ((cond t (into_room (id_text b) room) NotInForm ≡ NotInForm) ↔ ((s : List ℕ) → Reads s b → ⊥))
+    go : (t : Bool) → in_form b ≡ t → ((cond t (into_room (id_text b) room) (Err NotInForm) ≡ Err NotInForm) ↔ ((s : List ℕ) → Reads s b → ⊥))
     go true e = ((λ w. absurd (taken w)), (λ n. absurd (n (id_text b) (round b e small).0)))
       where
-        taken : into_room (id_text b) room ≡ NotInForm → ⊥
+        taken : into_room (id_text b) room ≡ Err NotInForm → ⊥
         taken w = room_not (ltb room (length (id_text b))) w
           where
-            room_not : (t : Bool) → cond t NoRoom (Length (length (id_text b))) ≡ NotInForm → ⊥
+            room_not : (t : Bool) → ◌≡◌ {A = Written} (cond t (Err NoRoom) (Ok (length (id_text b)))) (Err NotInForm) → ⊥
             room_not true w = let z : ◌≡◌ {A = ℕ} 0 1 = cc in omega arith
             room_not false w = let z : ◌≡◌ {A = ℕ} 0 1 = cc in omega arith
     go false e = ((λ w s r. let z : ◌≡◌ {A = ℕ} 0 1 = cc (range s b r).0 in omega arith), (λ n. refl))

@@ -1,15 +1,14 @@
 -- The 16 bytes of an id, and their text (01, "Id"; listing 14 of 001).
-use Rattle.std.specs.Prelude.{ℕ, zero, suc, ◌+◌, ◌-◌, ◌*◌, ◌/◌, ◌%◌, List, [], ◌∷◌, ◌++◌, Bool, false, cond, ◌&&◌, ◌||◌, ltb, leb, eqb, length, get_or, replicate}
+use Rattle.std.specs.Prelude.{ℕ, zero, suc, ◌+◌, ◌-◌, ◌*◌, ◌/◌, ◌%◌, List, [], ◌∷◌, ◌++◌, Bool, false, cond, ◌&&◌, ◌||◌, ltb, leb, eqb, length, get_or, Result, Err}
 use Prim.Native.Char.{code}
 use Rattle.octets.specs.Build.{build}
 use Rattle.form.specs.Regex.{judge}
 use Rattle.form.specs.Listings.{id_form}
 use Rattle.form.specs.Writing.{into_room}
-use Rattle.form.specs.declared.Verdict.{Verdict}
-use Rattle.form.specs.declared.Verdict.TheVariants.{Fits, Stops}
-use Rattle.form.specs.declared.Written.{Written}
-use Rattle.form.specs.declared.Written.TheVariants.{NotInForm}
-use Rattle.uuid_text.specs.declared.IdRead.{IdRead}
+use Rattle.form.specs.Verdict.{value_by}
+use Rattle.form.specs.declared.Stop.{Stop}
+use Rattle.form.specs.Writing.{Written}
+use Rattle.form.specs.declared.Unwritten.TheVariants.{NotInForm}
 
 -- 01: "lower-case hex in groups 8-4-4-4-12": two digits for each byte, and a dash before the bytes 4, 6, 8 and 10
 abbrev pub dash_before : ℕ → Bool
@@ -33,13 +32,9 @@ byte_at s k = hex_value (get_or s (place_of k) 0) * 16 + hex_value (get_or s (pl
 unfoldable pub id_of : List ℕ → List ℕ
 id_of s = build 16 (byte_at s)
 
--- a text of the form has its bytes; any other is refused where the form stops
-abbrev pub answer : Verdict → List ℕ → IdRead
-answer Fits b = record { verdict = Fits; id = b }
-answer (Stops n) b = record { verdict = Stops n; id = replicate 16 0 }
-
-unfoldable pub read_id : List ℕ → IdRead
-read_id s = answer (judge id_form s) (id_of s)
+-- a text of the form has its bytes
+unfoldable pub read_id : List ℕ → Result (List ℕ) Stop
+read_id s = value_by (judge id_form s) (id_of s)
 
 -- the text of byte k, of value x, and of all bytes before it
 abbrev pub pair_text : ℕ → List ℕ
@@ -63,7 +58,7 @@ in_form b =
 
 -- 01, "Writers": "1 for an amount or id that no text reads to"; "23"
 unfoldable pub write_id : List ℕ → ℕ → Written
-write_id b room = cond (in_form b) (into_room (id_text b) room) NotInForm
+write_id b room = cond (in_form b) (into_room (id_text b) room) (Err NotInForm)
 
 -- the characters 0 to 9 and a to f
 abbrev pub is_hex : ℕ → Bool

@@ -1,23 +1,24 @@
 -- The texts that the writers write are short: a text's length fits the mark's place.
 use Prim.Native.Nat.{ℕ, zero, suc, ◌+◌, ◌/◌, ◌%◌, ◌^◌, ◌≤◌, ◌<◌}
-use mathlib.Core.Path.{◌≡◌, refl}
+use mathlib.Core.Path.{◌≡◌, refl, ◌∙◌}
 use mathlib.Core.Bool.{Bool, true, false, cond, ◌||◌}
 use mathlib.Core.List.{List, [], ◌∷◌, ◌++◌}
 use native.Mathlib.Omega.{arith}
 use lib.Dec.{eqb, leb, ltb}
 use lib.IntN.{ℤ}
-use lib.ListN.{length, length-append}
+use lib.ListN.{length, length-append, length-map}
 use borrow.Author.Tests.{eqb-true}
-use Rattle.form.specs.declared.Written.{Written}
-use Rattle.form.specs.declared.Written.TheVariants.{NotInForm, OutsideYears}
-use Rattle.form.specs.Writing.{into_room}
+use Rattle.std.specs.Prelude.{Err}
+use Rattle.form.specs.declared.Unwritten.TheVariants.{NotInForm, OutsideYears}
+use Rattle.form.specs.Writing.{Written, into_room}
 use Rattle.amount.specs.declared.Amount.{Amount}
 use Rattle.amount.specs.Amount.{digit, whole_text, places, fraction_text, amount_text, write_amount}
 use Rattle.uuid_text.specs.Id.{id_text, in_form, write_id}
 use Rattle.uuid_text.proofs.Spelled.{whole}
 use Rattle.datetime.specs.Instant.{date_time_text, in_years, write_date_time}
-use Rattle.base64url.specs.Condition.{condition_text, write_condition}
-use Rattle.base64url.proofs.Write.{length-text}
+use Rattle.base64url.specs.Condition.{values_of, condition_text, write_condition}
+use Rattle.base64url.specs.Letters.{letter_of}
+use Rattle.base64url.proofs.Groups.{length-values}
 use Rattle.vaikshurd.specs.Inner.{Short}
 
 short_either : (t : Bool) (v w : Written) → Short v → Short w → Short (cond t v w)
@@ -59,28 +60,32 @@ length_datetime : (z : ℤ) → length (date_time_text z) ≡ 24
 unfolding date_time_text
 length_datetime z = refl
 
+length-condition : (b : List ℕ) → length b ≡ 32 → length (condition_text b) ≡ 43
+unfolding condition_text
+length-condition b e = length-map (values_of b) letter_of ∙ length-values 10 b e
+
 module _ (room : ℕ) where
   pub amount_short : (a : Amount) → Short (write_amount a room)
   unfolding write_amount
   amount_short a =
-      short_either (leb (10 ^ 18) a.units || leb (10 ^ 4) a.remainder) NotInForm (into_room (amount_text a) room) tt
+      short_either (leb (10 ^ 18) a.units || leb (10 ^ 4) a.remainder) (Err NotInForm) (into_room (amount_text a) room) tt
       (short_text (amount_text a) room (omega (arith, length-amount a)))
 
   pub id_short : (b : List ℕ) → Short (write_id b room)
   unfolding write_id id_text
   id_short b =
-      short_either (in_form b) (into_room (id_text b) room) NotInForm (short_text (id_text b) room (omega (arith, whole b))) tt
+      short_either (in_form b) (into_room (id_text b) room) (Err NotInForm) (short_text (id_text b) room (omega (arith, whole b))) tt
 
   pub datetime_short : (z : ℤ) → Short (write_date_time z room)
   unfolding write_date_time
   datetime_short z =
-      short_either (in_years z) (into_room (date_time_text z) room) OutsideYears
+      short_either (in_years z) (into_room (date_time_text z) room) (Err OutsideYears)
       (short_text (date_time_text z) room (omega (arith, length_datetime z))) tt
 
   pub condition_short : (b : List ℕ) → Short (write_condition b room)
   unfolding write_condition
   condition_short b = by (eqb (length b) 32) refl
     where
-      by : (t : Bool) → eqb (length b) 32 ≡ t → Short (cond t (into_room (condition_text b) room) NotInForm)
-      by true e = short_text (condition_text b) room (omega (arith, length-text b (eqb-true (length b) 32 e)))
+      by : (t : Bool) → eqb (length b) 32 ≡ t → Short (cond t (into_room (condition_text b) room) (Err NotInForm))
+      by true e = short_text (condition_text b) room (omega (arith, length-condition b (eqb-true (length b) 32 e)))
       by false e = tt

@@ -1,6 +1,5 @@
 pub mod Called
 pub mod Places
-pub mod Handed
 pub mod Lengths
 pub mod Packed
 pub mod Filled

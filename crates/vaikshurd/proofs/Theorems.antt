@@ -16,6 +16,7 @@ use Rattle.rules.specs.Answers.{number, code, is_done}
 use Rattle.rules.specs.Calls.{Text}
 use Rattle.shape.specs.Shape.{shape}
 use Rattle.book.specs.Step.{Outcome}
+use Rattle.std.specs.Prelude.{Some}
 use Rattle.book.specs.declared.Place.TheVariants.{Opened, Ended}
 use Rattle.open_book.specs.Effect.{fresh_book, open_step}
 use Rattle.time.specs.Effect.{time_step}
@@ -141,14 +142,14 @@ module _ (head opened ended : List ℕ) (id : Text) (formed : is_formed head ≡
   unfolding head_from
   long = length-build (λ k. account_from head (place_at k)) 32
 
-  pub in_open_book : (k : ℕ) → lookup_place (lent head opened ended) id ≡ Opened k →
+  pub in_open_book : (k : ℕ) → lookup_place (lent head opened ended) id ≡ Some (Opened k) →
       (found / 4294967296 ≡ 1) × (found % 4294967296 ≡ k * 160)
   unfolding place_left
   in_open_book k e =
       let low = low_opened (lent head opened ended) id long k e in
       rw (formed, e) (omega arith, omega arith)
 
-  pub in_finished_book : (k : ℕ) → lookup_place (lent head opened ended) id ≡ Ended k →
+  pub in_finished_book : (k : ℕ) → lookup_place (lent head opened ended) id ≡ Some (Ended k) →
       (found / 4294967296 ≡ 2) × (found % 4294967296 ≡ k * 160)
   unfolding place_left
   in_finished_book k e =

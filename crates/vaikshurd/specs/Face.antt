@@ -1,6 +1,6 @@
 -- What the exported calls leave: the answer, and each lent byte (01, "The switch's part": "There the head is a lent byte slice in a form
 -- kept in docs/ (another length or form: 21, at open another length: 20)").
-use Rattle.std.specs.Prelude.{ℕ, ◌+◌, ◌*◌, cond, List, eqb, length}
+use Rattle.std.specs.Prelude.{ℕ, ◌+◌, ◌*◌, cond, List, eqb, length, Option, Some, None}
 use Rattle.account.specs.declared.Head.{Head}
 use Rattle.head_form.specs.Form.{head_bytes, head_from, is_formed}
 use Rattle.rules.specs.declared.Answer.{Answer}
@@ -9,7 +9,7 @@ use Rattle.rules.specs.Answers.{is_done}
 use Rattle.rules.specs.Calls.{Text, in_form, «open»}
 use Rattle.shape.specs.Reading.{Book}
 use Rattle.book.specs.declared.Place.{Place}
-use Rattle.book.specs.declared.Place.TheVariants.{Opened, Ended, Nowhere}
+use Rattle.book.specs.declared.Place.TheVariants.{Opened, Ended}
 use Rattle.book.specs.Step.{Outcome, book_of}
 use Rattle.open_book.specs.Effect.{open_step}
 use Rattle.time.specs.Effect.{time_step}
@@ -58,10 +58,10 @@ unfoldable pub list_left : List ℕ → List ℕ → List ℕ → List ℕ → T
 list_left head opened ended list instant = cond (is_formed head) (time_step (lent head opened ended) list instant).list list
 
 -- "a lookup gives book and offset": the book in bits 32 to 63, 1 open and 2 finished, the record's first byte in bits 0 to 31; 0 refused
-abbrev pub place_word : Place → ℕ
-place_word (Opened k) = 4294967296 + k * 160
-place_word (Ended k) = 8589934592 + k * 160
-place_word Nowhere = 0
+abbrev pub place_word : Option Place → ℕ
+place_word (Some (Opened k)) = 4294967296 + k * 160
+place_word (Some (Ended k)) = 8589934592 + k * 160
+place_word None = 0
 
 unfoldable pub place_left : List ℕ → List ℕ → List ℕ → Text → ℕ
-place_left head opened ended id = place_word (cond (is_formed head) (lookup_place (lent head opened ended) id) Nowhere)
+place_left head opened ended id = place_word (cond (is_formed head) (lookup_place (lent head opened ended) id) None)

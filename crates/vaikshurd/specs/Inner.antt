@@ -1,19 +1,16 @@
 -- What the inner functions ask for; no public promise cites these.
-use Rattle.std.specs.Prelude.{◌*◌, ◌<◌}
-use Rattle.form.specs.declared.Written.{Written}
-use Rattle.form.specs.declared.Written.TheVariants.{Length, NotInForm, OutsideYears, NoRoom}
+use Rattle.std.specs.Prelude.{◌*◌, ◌<◌, Option, Some, None, Ok, Err}
+use Rattle.form.specs.Writing.{Written}
 use Rattle.book.specs.declared.Place.{Place}
-use Rattle.book.specs.declared.Place.TheVariants.{Opened, Ended, Nowhere}
+use Rattle.book.specs.declared.Place.TheVariants.{Opened, Ended}
 
 -- the text's length fits the place of the mark
 abbrev pub Short : Written → Type 0
-Short (Length n) = n < 4294967296
-Short NotInForm = Unit {0}
-Short OutsideYears = Unit {0}
-Short NoRoom = Unit {0}
+Short (Ok n) = n < 4294967296
+Short (Err e) = Unit {0}
 
 -- the record's first byte fits the low half
-abbrev pub Low : Place → Type 0
-Low (Opened k) = k * 160 < 4294967296
-Low (Ended k) = k * 160 < 4294967296
-Low Nowhere = Unit {0}
+abbrev pub Low : Option Place → Type 0
+Low (Some (Opened k)) = k * 160 < 4294967296
+Low (Some (Ended k)) = k * 160 < 4294967296
+Low None = Unit {0}

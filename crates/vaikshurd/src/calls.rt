@@ -1,4 +1,5 @@
 // The calls that change head and books: a head of the form is read, the call is made on it, and the head is written where it is accepted.
+// Each exported call has these three lines: a closure in their place would have to hold the books that C lends.
 ghost use Rattle.std.specs.Prelude.{◌≡◌, length};
 ghost use Rattle.join.specs.Effect.{join_step};
 ghost use Rattle.prepare.specs.Effect.{prepare_step};
@@ -10,7 +11,6 @@ ghost use Rattle.vaikshurd.specs.Face.{left, head_left, called, other_length, op
 
 use crate::answers::packed;
 use book::Answered;
-use datetime::InstantRead;
 use rules::Answer;
 
 // The head is written where the call is accepted.
@@ -19,25 +19,23 @@ fn done(head: &mut [u8], r: Answered) -> u64
     ensures { (result ≡ word r.answer r.mark)
         × (head.new ≡ head_left head.old r.answer r.head) }
 {
-    let answer = r.answer;
-    let next = r.head;
-    if rules::is_done(answer) {
-        head_form::encode(head, next);
+    if r.answer.is_done() {
+        head_form::encode(head, r.head);
     }
-    packed(answer, r.mark)
+    packed(r.answer, r.mark)
 }
 
 // A head of another length: 1 where a field is not in form, else 20.
+#[tactic(auto, unfolding(datetime::specs::Instant::read_date_time))]
 fn open_refused(currency: &[u8], time: &[u8]) -> u64
     ensures { result ≡ word (other_length currency.now time.now) 0 }
 {
-    if !book::fits(tokens::read_currency(currency)) {
+    if tokens::read_currency(currency).is_err() {
         return packed(Answer::NotInForm, 0);
     }
-    let read = datetime::read_datetime(time);
-    match read {
-        InstantRead::Value(_) => packed(Answer::BadLengths, 0),
-        InstantRead::Refused(_) => packed(Answer::NotInForm, 0),
+    match datetime::read_datetime(time) {
+        Ok(_) => packed(Answer::BadLengths, 0),
+        Err(_) => packed(Answer::NotInForm, 0),
     }
 }
 

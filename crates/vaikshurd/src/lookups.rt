@@ -19,19 +19,18 @@ pub extern "C" fn vaik_lookup(head: &[u8], opened: &[u8], ended: &[u8], id: &[u8
     }
     let h = head_form::decode(head);
     let r = lookup::lookup(h, opened, ended, id);
-    let answer = r.answer;
-    packed(answer, r.mark)
+    packed(r.answer, r.mark)
 }
 
 // The book in the high half, 1 the open and 2 the finished one, and the record's first byte in the low half.
-fn place_word(found: Place) -> u64
+fn place_word(found: Option<Place>) -> u64
     requires { Low found }
     ensures { result ≡ place_word found }
 {
     match found {
-        Place::Opened(k) => 4294967296 + (k as u64) * 160,
-        Place::Ended(k) => 8589934592 + (k as u64) * 160,
-        Place::Nowhere => 0,
+        Some(Place::Opened(k)) => 4294967296 + (k as u64) * 160,
+        Some(Place::Ended(k)) => 8589934592 + (k as u64) * 160,
+        None => 0,
     }
 }
 

@@ -7,9 +7,7 @@ ghost use Rattle.base64url.specs.Condition.{read_condition};
 ghost use Rattle.vaikshurd.specs.Texts.{amount_left, instant_left, bytes_left};
 
 use crate::answers::packed;
-use amount::AmountRead;
-use datetime::InstantRead;
-use form::Verdict;
+use form::Stop;
 use rules::Answer;
 
 // Amount: 1.
@@ -18,14 +16,13 @@ pub extern "C" fn vaik_read_amount(text: &[u8], units: &mut u64, remainder: &mut
     ensures { (result, units.new, remainder.new)
         ≡ amount_left (read_amount text.now) units.old remainder.old }
 {
-    let read = amount::read_amount(text);
-    match read {
-        AmountRead::Value(a) => {
+    match amount::read_amount(text) {
+        Ok(a) => {
             *units = a.units;
             *remainder = a.remainder;
             packed(Answer::Done, 0)
         }
-        AmountRead::Refused(_) => packed(Answer::NotInForm, 0),
+        Err(_) => packed(Answer::NotInForm, 0),
     }
 }
 
@@ -34,50 +31,41 @@ pub extern "C" fn vaik_read_amount(text: &[u8], units: &mut u64, remainder: &mut
 pub extern "C" fn vaik_read_datetime(text: &[u8], instant: &mut i64) -> u64
     ensures { (result, instant.new) ≡ instant_left (read_date_time text.now) instant.old }
 {
-    let read = datetime::read_datetime(text);
-    match read {
-        InstantRead::Value(t) => {
+    match datetime::read_datetime(text) {
+        Ok(t) => {
             *instant = t;
             packed(Answer::Done, 0)
         }
-        InstantRead::Refused(_) => packed(Answer::NotInForm, 0),
+        Err(_) => packed(Answer::NotInForm, 0),
     }
 }
 
 // The bytes that were read, at the front of the lent buffer: 1, 23.
-fn hand_over(verdict: Verdict, value: &[u8], out: &mut [u8]) -> u64
-    ensures { (result, out.new) ≡ bytes_left verdict value.now out.old }
+fn hand_over<const N: usize>(read: Result<[u8; N], Stop>, out: &mut [u8]) -> u64
+    ensures { (result, out.new) ≡ bytes_left read.entry out.old }
 {
-    if !book::fits(verdict) {
+    let Ok(value) = read else {
         return packed(Answer::NotInForm, 0);
-    }
+    };
     if out.len() < value.len() {
         return packed(Answer::NoRoom, 0);
     }
-    octets::put(out, 0, value);
+    octets::put(out, 0, &value);
     packed(Answer::Done, 0)
 }
 
 // Id: 1; 23 where fewer than 16 bytes are lent.
 #[unsafe(no_mangle)]
 pub extern "C" fn vaik_read_id(text: &[u8], id: &mut [u8]) -> u64
-    ensures { (result, id.new)
-        ≡ (let read = read_id text.now in bytes_left read.verdict read.id id.old) }
+    ensures { (result, id.new) ≡ bytes_left (read_id text.now) id.old }
 {
-    let read = uuid_text::read_id(text);
-    let verdict = read.verdict;
-    let value = read.id;
-    hand_over(verdict, &value, id)
+    hand_over(uuid_text::read_id(text), id)
 }
 
 // Condition and fulfilment: 1; 23 where fewer than 32 bytes are lent.
 #[unsafe(no_mangle)]
 pub extern "C" fn vaik_read_condition(text: &[u8], condition: &mut [u8]) -> u64
-    ensures { (result, condition.new)
-        ≡ (let read = read_condition text.now in bytes_left read.verdict read.bytes condition.old) }
+    ensures { (result, condition.new) ≡ bytes_left (read_condition text.now) condition.old }
 {
-    let read = base64url::read_condition(text);
-    let verdict = read.verdict;
-    let value = read.bytes;
-    hand_over(verdict, &value, condition)
+    hand_over(base64url::read_condition(text), condition)
 }

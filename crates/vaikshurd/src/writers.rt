@@ -9,24 +9,25 @@ ghost use Rattle.vaikshurd.specs.Inner.{Short};
 
 use crate::answers::packed;
 use amount::Amount;
-use form::Written;
+use form::Unwritten;
 use rules::Answer;
 
 // A writer's answer in one number.
-fn written(w: Written) -> u64
+fn written(w: Result<usize, Unwritten>) -> u64
     requires { Short w }
     ensures { result ≡ written_word w }
 {
     match w {
-        Written::Length(n) => packed(Answer::Done, n as u32),
-        Written::NotInForm => packed(Answer::NotInForm, 0),
-        Written::OutsideYears => packed(Answer::OutsideYears, 0),
-        Written::NoRoom => packed(Answer::NoRoom, 0),
+        Ok(n) => packed(Answer::Done, n as u32),
+        Err(Unwritten::NotInForm) => packed(Answer::NotInForm, 0),
+        Err(Unwritten::OutsideYears) => packed(Answer::OutsideYears, 0),
+        Err(Unwritten::NoRoom) => packed(Answer::NoRoom, 0),
     }
 }
 
 // Amount: 1, 23.
 #[unsafe(no_mangle)]
+#[tactic(auto, using(crate::proofs::Lengths::amount_short))]
 pub extern "C" fn vaik_write_amount(units: u64, remainder: u16, out: &mut [u8]) -> u64
     ensures { (result, out.new) ≡ text_left (write_amount (amount_held units remainder) (length out.old))
         (amount_text (amount_held units remainder)) out.old }
@@ -36,6 +37,7 @@ pub extern "C" fn vaik_write_amount(units: u64, remainder: u16, out: &mut [u8]) 
 
 // Id: 1, 23.
 #[unsafe(no_mangle)]
+#[tactic(auto, using(crate::proofs::Lengths::id_short))]
 pub extern "C" fn vaik_write_id(id: &[u8], out: &mut [u8]) -> u64
     ensures { (result, out.new)
         ≡ text_left (write_id id.now (length out.old)) (id_text id.now) out.old }
@@ -45,6 +47,7 @@ pub extern "C" fn vaik_write_id(id: &[u8], out: &mut [u8]) -> u64
 
 // DateTime: 22, 23.
 #[unsafe(no_mangle)]
+#[tactic(auto, using(crate::proofs::Lengths::datetime_short))]
 pub extern "C" fn vaik_write_datetime(instant: i64, out: &mut [u8]) -> u64
     ensures { (result, out.new)
         ≡ text_left (write_date_time instant (length out.old)) (date_time_text instant) out.old }
@@ -54,6 +57,7 @@ pub extern "C" fn vaik_write_datetime(instant: i64, out: &mut [u8]) -> u64
 
 // Condition and fulfilment: 1, 23.
 #[unsafe(no_mangle)]
+#[tactic(auto, using(crate::proofs::Lengths::condition_short))]
 pub extern "C" fn vaik_write_condition(condition: &[u8], out: &mut [u8]) -> u64
     ensures { (result, out.new) ≡ text_left (write_condition condition.now (length out.old))
         (condition_text condition.now) out.old }

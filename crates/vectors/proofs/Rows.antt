@@ -5,12 +5,10 @@ use Prim.Native.Nat.{ℕ}
 use Prim.Native.String.{String}
 use lib.IntN.{pos, neg_ℤ}
 use Rattle.octets.specs.Ascii.{ascii}
-use Rattle.amount.specs.Amount.{read_amount}
-use Rattle.amount.specs.declared.AmountRead.{AmountRead}
-use Rattle.amount.specs.declared.AmountRead.TheVariants as amount
+use Rattle.std.specs.Prelude.{Ok, Err}
+use Rattle.amount.specs.Amount.{AmountRead, read_amount}
 use Rattle.datetime.specs.Calendar.{before}
 use Rattle.datetime.specs.Instant.{time_of, offset_after, epoch, read_date_time}
-use Rattle.datetime.specs.declared.InstantRead.TheVariants.{Value}
 
 -- a text and what it reads to
 pub record Row : Type 0 where
@@ -22,11 +20,11 @@ row t r = record { text = t; reads = r }
 
 -- so many units and ten-thousandths
 abbrev is : ℕ → ℕ → AmountRead
-is u r = amount.Value (record { units = u; remainder = r })
+is u r = Ok (record { units = u; remainder = r })
 
 -- refused, at this offset
 abbrev stops : ℕ → AmountRead
-stops n = amount.Refused n
+stops n = Err (record { at = n })
 
 -- "P `5`, `5.5`, `0.5`, `0`, `5.5555` read; P `5.0`, `5.`, `.5`, `00.5`, `-5.5`, `5.55555` refused (001, table 38)"
 abbrev pub rows : List Row
@@ -49,16 +47,16 @@ unfolding read_amount
 table38 = refl
 
 -- "P `2016-05-24T08:38:08.699Z` is 1464079088699"
-pub in_utc : read_date_time (ascii "2016-05-24T08:38:08.699Z") ≡ Value (pos 1464079088699)
+pub in_utc : read_date_time (ascii "2016-05-24T08:38:08.699Z") ≡ Ok (pos 1464079088699)
 unfolding read_date_time time_of offset_after epoch before
 in_utc = refl
 
 -- "with `-04:00` 1464093488699"
-pub with-offset : read_date_time (ascii "2016-05-24T08:38:08.699-04:00") ≡ Value (pos 1464093488699)
+pub with-offset : read_date_time (ascii "2016-05-24T08:38:08.699-04:00") ≡ Ok (pos 1464093488699)
 unfolding read_date_time time_of offset_after epoch before
 with-offset = refl
 
 -- "P `1969-12-31T23:59:59.999Z` is -1"
-pub before_1970 : read_date_time (ascii "1969-12-31T23:59:59.999Z") ≡ Value (neg_ℤ (pos 1))
+pub before_1970 : read_date_time (ascii "1969-12-31T23:59:59.999Z") ≡ Ok (neg_ℤ (pos 1))
 unfolding read_date_time time_of offset_after epoch before
 before_1970 = refl

@@ -1,23 +1,23 @@
--- `by_state`: the bytes 16 and 19 tell the state, one test after the other.
+-- `by_state`: the bytes 16 and 19 tell the state.
+use native.Mathlib.Omega.{arith}
+use Rattle.shape.specs.Reading.{transfer_of}
 use Rattle.book.proofs.Ends.{state_reserved, state_committed, state_aborted, state_expired}
 use Rattle.abort.proofs.by_state.Goals as goal
 
-pub returns-then-part-eq2 : goal.returns-then-part-eq2
-returns-then-part-eq2 c =
-    rw (state_reserved c.args.part.now c.requires c.if-part-eq2.true)
+pub returns-in-2 : goal.returns-in-2
+unfolding transfer_of
+returns-in-2 c = λ names. rw (state_reserved c.args.row.now c.told-row c.in-2.is)
 
-pub returns-then-part-eq3 : goal.returns-then-part-eq3
-returns-then-part-eq3 c =
-    rw (state_committed c.args.part.now c.requires c.if-part-eq3.true)
+pub returns-in-3 : goal.returns-in-3
+unfolding transfer_of
+returns-in-3 c = λ names. rw (state_committed c.args.row.now c.told-row c.in-3.is)
 
-pub returns-then-part-eq2-2 : goal.returns-then-part-eq2-2
-returns-then-part-eq2-2 c =
-    rw (
-      state_aborted c.args.part.now c.requires c.if-part-eq2.false c.if-part-eq3.false c.if-part-eq2-2.true,
-      c.resend.ensures,
-      c.code_of.ensures,
-    )
+pub returns-in_default : goal.returns-in_default
+unfolding transfer_of
+returns-in_default c = λ names.
+    rw (state_aborted c.args.row.now c.told-row (λ e. omega arith) (λ e. omega arith) c.if-row-eq-BY_PAYEE.true, c.resend.ensures, c.code_of.ensures)
 
-pub returns : goal.returns
-returns c =
-    rw (state_expired c.args.part.now c.requires c.if-part-eq2.false c.if-part-eq3.false c.if-part-eq2-2.false)
+pub returns-in_default-2 : goal.returns-in_default-2
+unfolding transfer_of
+returns-in_default-2 c = λ names.
+    rw (state_expired c.args.row.now c.told-row (λ e. omega arith) (λ e. omega arith) c.if-row-eq-BY_PAYEE.false)

@@ -17,15 +17,6 @@ more n count power k b i h l =
 pub loop-power-init : goal.loop-power-init
 loop-power-init c = (omega arith, omega arith, omega arith, refl, λ h. absurd (omega arith))
 
-pub overflow_mul-power : goal.overflow_mul-power
-overflow_mul-power c = omega arith
-
-pub overflow_add-count : goal.overflow_add-count
-overflow_add-count c = omega arith
-
-pub loop-power-smaller : goal.loop-power-smaller
-loop-power-smaller c = omega arith
-
 pub loop-power-preserved : goal.loop-power-preserved
 loop-power-preserved c =
     let l = c.loop-power in
@@ -33,15 +24,6 @@ loop-power-preserved c =
 
 pub loop-power-2-init : goal.loop-power-2-init
 loop-power-2-init c = c.loop-power.invariant
-
-pub overflow_mul-power-in-loop-power-2 : goal.overflow_mul-power-in-loop-power-2
-overflow_mul-power-in-loop-power-2 c = omega arith
-
-pub overflow_add-count-in-loop-power-2 : goal.overflow_add-count-in-loop-power-2
-overflow_add-count-in-loop-power-2 c = omega arith
-
-pub loop-power-2-smaller : goal.loop-power-2-smaller
-loop-power-2-smaller c = omega arith
 
 pub loop-power-2-preserved : goal.loop-power-2-preserved
 loop-power-2-preserved c =

@@ -1,4 +1,4 @@
-use Prim.Native.Nat.{◌-◌, ◌≤◌}
+use Prim.Native.Nat.{◌-◌}
 use mathlib.Core.Path.{◌≡◌}
 use lib.ListN.{length}
 use lib.Seq.{sets}
@@ -7,8 +7,5 @@ use Rattle.amount.proofs.put_digits.Given as goal
 
 abbrev pub invariant-loop-k : goal.invariant-loop-k
 invariant-loop-k l =
-    (l.from ≤ l.k) × (l.k ≤ l.to) × (length l.out ≡ length l.initial.out)
+    (length l.out ≡ length l.initial.out)
     × (sets l.out l.from (in_digits (l.k - l.from) l.rest) ≡ sets l.initial.out l.from (in_digits (l.to - l.from) l.n))
-
-abbrev pub decreases-loop-k : goal.decreases-loop-k
-decreases-loop-k l = l.k

@@ -9,29 +9,14 @@ use Rattle.amount.proofs.put_pairs.Goals as goal
 pub loop-k-init : goal.loop-k-init
 loop-k-init c = (omega arith, omega arith, refl, refl)
 
-pub overflow_sub-k : goal.overflow_sub-k
-overflow_sub-k c = omega arith
-
-pub overflow_sub-k-in-loop-k : goal.overflow_sub-k-in-loop-k
-overflow_sub-k-in-loop-k c = omega arith
-
 pub bounds-ones-pair : goal.bounds-ones-pair
 bounds-ones-pair c = omega (arith, c.requires.2.ones_long)
-
-pub bounds-out-k : goal.bounds-out-k
-bounds-out-k c = omega arith
-
-pub overflow_sub-k-in-loop-k-2 : goal.overflow_sub-k-in-loop-k-2
-overflow_sub-k-in-loop-k-2 c = omega arith
 
 pub bounds-tens-pair : goal.bounds-tens-pair
 bounds-tens-pair c = omega (arith, c.requires.2.tens_long)
 
 pub bounds-out-k-in-loop-k : goal.bounds-out-k-in-loop-k
 bounds-out-k-in-loop-k c = simp length-set (omega arith)
-
-pub loop-k-smaller : goal.loop-k-smaller
-loop-k-smaller c = omega arith
 
 pub loop-k-preserved : goal.loop-k-preserved
 loop-k-preserved c =
@@ -45,15 +30,6 @@ loop-k-preserved c =
           (fill_pair l.out a.from l.k l.rest (omega arith) ∙ l.invariant.3),
     )
 
-pub overflow_cast-out : goal.overflow_cast-out
-overflow_cast-out c = omega arith
-
-pub overflow_add-out : goal.overflow_add-out
-overflow_add-out c = omega arith
-
-pub bounds-out-from : goal.bounds-out-from
-bounds-out-from c = omega arith
-
 pub shape_of-out-then-from-k : goal.shape_of-out-then-from-k
 shape_of-out-then-from-k c = simp length-set c.loop-k.invariant.2
 
@@ -61,9 +37,6 @@ pub returns-then-from-k : goal.returns-then-from-k
 returns-then-from-k c =
     let l = c.loop-k in
     fill_last l.out c.args.from l.k l.rest (omega arith) (omega arith) ∙ l.invariant.3
-
-pub shape_of-out-else-from-k : goal.shape_of-out-else-from-k
-shape_of-out-else-from-k c = omega arith
 
 pub returns-else-from-k : goal.returns-else-from-k
 returns-else-from-k c =

@@ -19,9 +19,6 @@ loop-number-init c = (omega arith, omega arith, omega arith, refl)
 pub overflow_sub-count : goal.overflow_sub-count
 overflow_sub-count c = let l = c.loop-number in (trim_step l.count l.number l.invariant.1 (omega arith) l.invariant.2).0
 
-pub loop-number-smaller : goal.loop-number-smaller
-loop-number-smaller c = omega arith
-
 pub loop-number-preserved : goal.loop-number-preserved
 loop-number-preserved c =
     let l = c.loop-number in

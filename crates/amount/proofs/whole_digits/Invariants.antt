@@ -1,4 +1,4 @@
-use Prim.Native.Nat.{◌-◌, ◌^◌, ◌≤◌, ◌<◌}
+use Prim.Native.Nat.{◌-◌, ◌^◌, ◌<◌}
 use mathlib.Core.Path.{◌≡◌}
 use lib.ListN.{drop}
 use Rattle.amount.specs.Amount.{read_amount}
@@ -7,7 +7,4 @@ use Rattle.amount.proofs.whole_digits.Given as goal
 
 abbrev pub invariant-loop-i : goal.invariant-loop-i
 invariant-loop-i l =
-    (1 ≤ l.i) × (l.i ≤ l.limit) × (l.units < 10 ^ l.i) × (whole_rest (18 - l.i) l.i l.units (drop l.i l.s) ≡ read_amount l.s)
-
-abbrev pub decreases-loop-i : goal.decreases-loop-i
-decreases-loop-i l = l.limit - l.i
+    (l.units < 10 ^ l.i) × (whole_rest (18 - l.i) l.i l.units (drop l.i l.s) ≡ read_amount l.s)

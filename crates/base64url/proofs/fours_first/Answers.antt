@@ -1,17 +1,17 @@
--- `base64url::fours_first` meets its contract: the letters passed and those to come are the letters to the end.
-use borrow.Author.Rules.{rules}
-use borrow.Author.Tests.{not-false}
-use Rattle.base64url.proofs.Count.{count_starts, count_four}
+-- `fours_first` meets its contract: the letters passed and those to come are the letters of the whole text.
+use Rattle.std.proofs.Common.{arith, sym, ◌≡◌, ◌∙◌, ap, ◌+◌, ◌*◌}
+use Rattle.base64url.specs.Scan.{four_letters}
+use Rattle.base64url.proofs.Turns.{chunk_of_four}
+use Rattle.base64url.proofs.Count.{count_four}
 use Rattle.base64url.proofs.fours_first.Goals as goal
 
-pub loop-i-init : goal.loop-i-init
-loop-i-init c = (search rules, count_starts _ _)
-
-pub loop-i-preserved : goal.loop-i-preserved
-loop-i-preserved c =
-    let l = c.loop-i in
-    let a = c.args in (
-      search rules,
-      count_four a.end a.s.now l.i _ l.invariant.1 (search rules) (search rules)
-          (rw c.four_letters.ensures at (not-false c.four_letters.result c.if-not-four_letters.false-raw)),
-    )
+pub loop-k-preserved : goal.loop-k-preserved
+loop-k-preserved c =
+    let k = c.loop-k.k in
+    let s = c.args.s.now in
+    let cut = c.as_chunks.ensures in
+    let e : (k + 1) * 4 ≡ k * 4 + 4 = omega arith in
+    let four = ap four_letters (chunk_of_four s _ k cut.front (omega (arith, cut.front_len))) in
+    rw e
+    (count_four _ s (k * 4) _ c.loop-k.invariant (omega (arith, cut.front_len)) (omega (arith, cut.front_len))
+    (sym (c.four_letters.ensures ∙ four) ∙ c.if-not-four_letters.false))

@@ -1,10 +1,7 @@
-use Prim.Native.Nat.{◌-◌, ◌≤◌}
-use Rattle.base64url.specs.Scan.{letters_first}
-use Rattle.base64url.proofs.Count.{Passed}
+use Prim.Native.Nat.{◌*◌}
+use lib.ListN.{length}
+use Rattle.base64url.specs.Scan.{letters_first, Passed}
 use Rattle.base64url.proofs.fours_first.Given as goal
 
-abbrev pub invariant-loop-i : goal.invariant-loop-i
-invariant-loop-i l = (l.i ≤ l.end) × Passed l.end l.s (letters_first l.end l.s) l.i
-
-abbrev pub decreases-loop-i : goal.decreases-loop-i
-decreases-loop-i l = l.end - l.i
+abbrev pub invariant-loop-k : goal.invariant-loop-k
+invariant-loop-k l = Passed (length l.s) l.s (letters_first (length l.s) l.s) (l.k * 4)

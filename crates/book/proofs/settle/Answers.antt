@@ -5,5 +5,5 @@ use Rattle.book.proofs.settle.Goals as goal
 pub returns : goal.returns
 unfolding settled_head
 returns c =
-    let amount = c.amount_of-amount.ensures in
-    rw (c.with_position-next.ensures, c.lower-position.ensures, amount.0, amount.1)
+    let amount = c.amount_of.ensures in
+    rw (c.with_position-next.ensures, c.lowered-position.ensures, amount.0, amount.1)

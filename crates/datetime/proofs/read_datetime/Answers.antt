@@ -1,32 +1,26 @@
--- `read_datetime`: the value of a text that is passed, or where it stops.
-use mathlib.Core.Path.{◌≡◌, sym, ◌∙◌}
-use mathlib.Core.List.{List}
-use Prim.Native.Nat.{ℕ, ◌<◌}
-use mir.Facts.{to_z-of_z}
-use mir.Syntax.{w64}
-use lib.ListN.{get_or}
+-- `read_datetime`: date, clock time and zone in turn, which is the value of a text of the form or where it stops.
+use mathlib.Core.Path.{◌∙◌}
 use Rattle.octets.proofs.Lists.{bytes}
-use Rattle.form.specs.Regex.{judge}
-use Rattle.form.specs.Listings.{date_time_form}
-use Rattle.form.specs.declared.Verdict.{Verdict}
-use Rattle.datetime.specs.Reach.{verdict}
-use Rattle.datetime.proofs.Walk.{verdict-is}
-use Rattle.datetime.proofs.Values.{read_value, read-refused}
+use Rattle.datetime.specs.Reading.{reading}
+use Rattle.datetime.proofs.Values.{reading_is}
+use Rattle.datetime.proofs.Steps.{went, halts}
 use Rattle.datetime.proofs.read_datetime.Goals as goal
 
-judged : (s : List ℕ) (v : Verdict) → ((k : ℕ) → get_or s k 0 < 256) → v ≡ verdict s → v ≡ judge date_time_form s
-judged s v b e = e ∙ verdict-is s (bytes s b)
+pub returns-in_err-day : goal.returns-in_err-day
+unfolding reading
+returns-in_err-day c =
+    halts _ c.date.ensures.value c.from_residual.ensures.1 c.in_err-day.was
+    ∙ reading_is c.args.s.now (bytes c.args.s.now (λ k. (c.type_inv.s k).fits))
 
-pub instant-requires : goal.instant-requires
-instant-requires c = sym c.verdict-found.ensures ∙ c.in-Fits.is
+pub returns-in_err-time : goal.returns-in_err-time
+unfolding reading
+returns-in_err-time c =
+    went _ c.date.ensures.value c.in_ok-day.was
+    (halts _ c.clock.ensures.value c.from_residual-in_err-time.ensures.1 c.in_err-time.was)
+    ∙ reading_is c.args.s.now (bytes c.args.s.now (λ k. (c.type_inv.s k).fits))
 
-pub returns-in-Fits : goal.returns-in-Fits
-returns-in-Fits c = let s = c.args.s.now in
-    let found = c.verdict-found in
-    read_value s _ (judged s _ (λ (k : ℕ). (c.type_inv.s k).fits) found.ensures) c.in-Fits.is _
-    (to_z-of_z {w = w64} (record { sfits = c.instant.type_inv }) ∙ c.instant.ensures)
-
-pub returns-in-Stops : goal.returns-in-Stops
-returns-in-Stops c = let s = c.args.s.now in
-    let found = c.verdict-found in
-    read-refused s _ (judged s _ (λ (k : ℕ). (c.type_inv.s k).fits) found.ensures) _ c.in-Stops.is
+pub returns : goal.returns
+unfolding reading
+returns c =
+    went _ c.date.ensures.value c.in_ok-day.was (went _ c.clock.ensures.value c.in_ok-time.was c.zoned.ensures)
+    ∙ reading_is c.args.s.now (bytes c.args.s.now (λ k. (c.type_inv.s k).fits))

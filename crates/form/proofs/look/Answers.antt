@@ -7,7 +7,7 @@ pub returns-then-next-q : goal.returns-then-next-q
 returns-then-next-q c = let a = c.args in entry_past a.next.now a.q a.k (omega arith)
 
 pub returns-then-column-next : goal.returns-then-column-next
-returns-then-column-next c = let a = c.args in entry_in a.next.now a.q a.k (omega arith)
+returns-then-column-next c = let a = c.args in rw c.from-column.ensures (entry_in a.next.now a.q a.k (omega arith))
 
 pub returns : goal.returns
 returns c = let a = c.args in entry_past a.next.now a.q a.k (omega arith)

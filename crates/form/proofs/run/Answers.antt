@@ -1,5 +1,6 @@
 -- `form::run` meets its contract: the verdict on the bytes to come is the verdict on the whole text.
 use Prim.Native.Nat.{ℕ}
+use mathlib.Core.Path.{sym, ◌∙◌}
 use borrow.Author.Rules.{rules}
 use Rattle.octets.proofs.Lists.{bytes}
 use Rattle.form.proofs.Judged.{stop_at, go_on, stop_end, fit-end}
@@ -9,29 +10,24 @@ pub returns-then-t : goal.returns-then-t
 returns-then-t c =
     let a = c.args in
     let l = c.loop-i in (
-      stop_at a.class.now a.next.now a.s.now l.i l.q c.step-t.result _ l.invariant.1 (search rules)
-          c.step-t.ensures
-          c.if-t.true,
+      stop_at a.class.now a.next.now a.s.now l.i l.q c.step-t.result _ l.invariant c.loop-i-test.true
+          c.step-t.ensures c.if-t.true,
       bytes a.s.now (λ (k : ℕ). (c.type_inv.s k).fits),
     )
 
 pub loop-i-preserved : goal.loop-i-preserved
 loop-i-preserved c =
     let a = c.args in
-    let l = c.loop-i in (
-      search rules,
-      go_on a.class.now a.next.now a.s.now l.i l.q c.step-t.result _ l.invariant.1 (search rules)
-          c.step-t.ensures
-          c.if-t.false,
-    )
+    let l = c.loop-i in
+    go_on a.class.now a.next.now a.s.now l.i l.q c.from-q.result _ l.invariant c.loop-i-test.true
+    (c.from-q.ensures ∙ c.step-t.ensures) (λ x. c.if-t.false (sym c.from-q.ensures ∙ x))
 
-pub returns-then-end : goal.returns-then-end
-returns-then-end c =
+pub returns-then-look : goal.returns-then-look
+returns-then-look c =
     let a = c.args in
     let l = c.loop-i in (
-      stop_end a.class.now a.next.now a.s.now l.i l.q c.look-end.result _ l.invariant.1 (search rules)
-          (search rules)
-          c.look-end.ensures c.if-end.true,
+      stop_end a.class.now a.next.now a.s.now l.i l.q c.look.result _ l.invariant (search rules)
+          (search rules) c.look.ensures c.if-look.true,
       bytes a.s.now (λ (k : ℕ). (c.type_inv.s k).fits),
     )
 
@@ -39,8 +35,7 @@ pub returns : goal.returns
 returns c =
     let a = c.args in
     let l = c.loop-i in (
-      fit-end a.class.now a.next.now a.s.now l.i l.q c.look-end.result _ l.invariant.1 (search rules)
-          (search rules)
-          c.look-end.ensures c.if-end.false,
+      fit-end a.class.now a.next.now a.s.now l.i l.q c.look.result _ l.invariant (search rules)
+          (search rules) c.look.ensures c.if-look.false,
       bytes a.s.now (λ (k : ℕ). (c.type_inv.s k).fits),
     )

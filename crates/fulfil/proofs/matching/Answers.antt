@@ -1,13 +1,12 @@
--- `matching`: the lent part is the condition.
+-- `matching`: the bytes that are compared are the condition.
 use Rattle.record.specs.Layout.{get}
+use Rattle.octets.proofs.Equal.{same_by_pairs}
 use Rattle.fulfil.proofs.matching.Goals as goal
 
-pub returns-then-same : goal.returns-then-same
+pub returns-then-eq : goal.returns-then-eq
 unfolding get
-returns-then-same c =
-    rw (← c.hash-hash.ensures, ← c.same.ensures, c.if-same.true)
+returns-then-eq c = rw (← c.hash.ensures, ← same_by_pairs, ← c.eq.ensures, c.if-eq.true)
 
-pub returns : goal.returns
+pub returns-else-eq : goal.returns-else-eq
 unfolding get
-returns c =
-    rw (← c.hash-hash.ensures, ← c.same.ensures, c.if-same.false)
+returns-else-eq c = rw (← c.hash.ensures, ← same_by_pairs, ← c.eq.ensures, c.if-eq.false)

@@ -1,38 +1,45 @@
--- `number`: the loop's invariant is the number of the bytes so far, and its bound.
-use Prim.Native.Nat.{◌+◌, ◌<◌, ◌^◌}
-use mathlib.Core.Path.{◌≡◌, refl}
-use native.Mathlib.Omega.{arith}
-use lib.ListN.{get_or}
-use borrow.Author.Rules.{rules}
-use Rattle.octets.specs.Numbers.{number_from}
-use Rattle.octets.proofs.Numbers.{number_more, number_room, number-grown}
+-- `number`: the bytes before the last are at most seven, so that their number has room for one more.
+use Rattle.std.proofs.Common.{◌≡◌, ℕ, ◌+◌, ◌-◌, ◌≤◌, List, length, get_or, Fits, w8, refl, arith, take_all}
+use Rattle.octets.specs.Bytes.{Bytes}
+use Rattle.octets.specs.Numbers.{number as number_in, number_from}
+use Rattle.octets.specs.Parts.{part}
+use Rattle.octets.proofs.Lists.{bytes, byte-at}
+use Rattle.octets.proofs.Numbers.{number_more, number_room}
+use Rattle.octets.proofs.Parts.{bytes-part, length_part}
+use Rattle.octets.proofs.Round.{number_fits}
 use Rattle.octets.proofs.number.Goals as goal
 
-room : (c : goal.In-loop-i) → c.loop-i.n < 2 ^ 56
-room c = number_room c.loop-i.n c.loop-i.i (omega arith) c.loop-i.invariant.2
+taken : (s : List ℕ) (at w : ℕ) → ((k : ℕ) → Fits w8 (get_or s k 0)) → Bytes (part s at w)
+taken s at w f = bytes-part s at w (bytes s (λ k. (f k).fits))
 
-pub loop-i-init : goal.loop-i-init
+pub loop-b-init : goal.loop-b-init
 unfolding number_from
-loop-i-init c = (search rules, refl, omega arith)
+loop-b-init c = refl
 
 pub overflow_mul-n : goal.overflow_mul-n
-overflow_mul-n c = omega (arith, room c)
-
-pub overflow_cast-n : goal.overflow_cast-n
-overflow_cast-n c = omega (arith, c.type_inv.s (c.args.at + c.loop-i.i))
-
-pub overflow_add-n-in-loop-i : goal.overflow_add-n-in-loop-i
-overflow_add-n-in-loop-i c = omega (arith, c.type_inv.s (c.args.at + c.loop-i.i), (let fact : c.loop-i.n < 2 ^ 56 = number_room c.loop-i.n c.loop-i.i (omega arith) c.loop-i.invariant.2 in fact))
-
-pub loop-i-preserved : goal.loop-i-preserved
-loop-i-preserved c =
+overflow_mul-n c =
     let a = c.args in
-    let l = c.loop-i in
-    let byte : get_or c.args.s.now (c.args.at + c.loop-i.i) 0 < 256 = omega (arith, c.type_inv.s (c.args.at + c.loop-i.i)) in
-    (search rules, rw (number_more a.s.now a.at l.i (omega arith), ← l.invariant.1), number-grown l.n l.i _ l.invariant.2 byte)
+    let w = a.at + a.width - a.at in
+    let b = taken a.s.now a.at w c.type_inv.s in
+    omega (arith, number_room (part a.s.now a.at w) c.loop-b.b-index b (omega arith) (omega (arith, length_part a.s.now a.at w)))
+
+pub overflow_add-n : goal.overflow_add-n
+overflow_add-n c =
+    let a = c.args in
+    let w = a.at + a.width - a.at in
+    let b = taken a.s.now a.at w c.type_inv.s in
+    let room = number_room (part a.s.now a.at w) c.loop-b.b-index b (omega arith) (omega (arith, length_part a.s.now a.at w)) in
+    omega (arith, byte-at _ b c.loop-b.b-index, room)
+
+pub loop-b-preserved : goal.loop-b-preserved
+loop-b-preserved c = let more = number_more _ c.loop-b.b-index c.loop-b-test.true in cc
 
 pub returns : goal.returns
 returns c =
-    let l = c.loop-i in
-    let e : l.i ≡ c.args.width = omega arith in
-    (rw (← e) l.invariant.1, rw (← e) l.invariant.2)
+    let a = c.args in
+    let w : a.at + a.width - a.at ≡ a.width = omega arith in
+    let s = part a.s.now a.at a.width in
+    let all : length s ≤ c.loop-b.b-index = rw w at c.loop-b-test.false in
+    let n : c.loop-b.n ≡ number_in s = rw (w, take_all c.loop-b.b-index s all) at c.loop-b.invariant in
+    let b = taken a.s.now a.at a.width c.type_inv.s in
+    (n, rw n (number_fits s a.width b (length_part a.s.now a.at a.width (omega arith))))

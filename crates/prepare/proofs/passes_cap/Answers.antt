@@ -6,12 +6,11 @@ use Rattle.account.proofs.Positions.{held_remainder}
 use Rattle.prepare.proofs.Tests.{above_cap}
 use Rattle.prepare.proofs.passes_cap.Goals as goal
 
-pub at_most-requires : goal.at_most-requires
-at_most-requires c =
-    (rw c.raise.ensures (held_remainder _), c.requires.cap)
+pub is_at_most-requires : goal.is_at_most-requires
+is_at_most-requires c = (rw c.raised.ensures (held_remainder _), c.requires.cap)
 
 pub returns : goal.returns
 returns c =
     let a = c.args in
-    let h = account_at a.h a.payer in
-    ap not c.at_most.ensures ∙ rw c.raise.ensures (above_cap h.position a.c.amount h.cap)
+    let payer = account_at a.h a.payer in
+    ap not c.is_at_most.ensures ∙ rw c.raised.ensures (above_cap payer.position a.c.amount payer.cap)

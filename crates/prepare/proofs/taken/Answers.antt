@@ -1,32 +1,13 @@
--- `taken`: the count over the slots before k.
-use mathlib.Core.Path.{refl, ap, ◌∙◌}
-use native.Mathlib.Omega.{arith}
-use lib.Seq.{take_all}
-use borrow.Author.Rules.{rules}
+-- `taken`: what the library counts.
+use Rattle.std.proofs.Common.{rules, refl, cond, ◌≡◌, ◌+◌, Bool, true, false, sym, ◌∙◌, ℕ, arith}
+use Rattle.std.proofs.lemmas.List.Recursion.{is_count_by}
 use Rattle.octets.specs.Lists.{count}
-use Rattle.record.specs.Rows.{rows}
-use Rattle.record.proofs.Rows.{length-rows}
 use Rattle.shape.specs.Reading.{is_taken}
-use Rattle.prepare.proofs.Tests.{count-slot}
 use Rattle.prepare.proofs.taken.Goals as goal
 
-pub loop-k-init : goal.loop-k-init
-loop-k-init c = (search rules, search rules, refl)
-
-pub overflow_add-n : goal.overflow_add-n
-overflow_add-n c = omega (arith, c.counted-n.ensures.1)
-
-pub loop-k-preserved : goal.loop-k-preserved
-loop-k-preserved c =
-    let l = c.loop-k in
-    let more = count-slot c.args.opened.now c.args.slots l.k l.n c.counted-n.result c.requires (omega arith) l.invariant.2
-    c.counted-n.ensures.0 in
-    (omega arith, omega (arith, c.counted-n.ensures.1), more)
+one_more : (t : Bool) (n : ℕ) → cond t 1 0 + n ≡ cond t (1 + n) n
+one_more true n = refl
+one_more false n = omega arith
 
 pub returns : goal.returns
-returns c =
-    let a = c.args in
-    let l = c.loop-k in
-    let rs = rows a.slots a.opened.now in
-    let whole = take_all l.k rs (omega (arith, length-rows a.slots a.opened.now)) in
-    (l.invariant.2 ∙ ap (count is_taken) whole, omega arith)
+returns c = search rules ∙ sym (is_count_by (count is_taken) is_taken refl (λ x xs. one_more (is_taken x) (count is_taken xs)) c.args.slots.now)

@@ -1,16 +1,6 @@
 -- `sha256::hash` meets its contract: the whole blocks of the message and then its padded end are the blocks of the padded message.
-use Rattle.sha256.specs.Sha256.{K}
 use Rattle.sha256.proofs.Padding.{parts_hashed}
-use Rattle.std.proofs.Common.{refl}
 use Rattle.sha256.proofs.hash.Goals as goal
-
-pub absorbed-whole-requires : goal.absorbed-whole-requires
-unfolding K
-absorbed-whole-requires c = refl
-
-pub absorbed-requires : goal.absorbed-requires
-unfolding K
-absorbed-requires c = refl
 
 pub returns : goal.returns
 returns c =

@@ -1,16 +1,43 @@
--- `uuid_text::read_id` meets its contract: where the walk stopped is the verdict.
-use Prim.Native.Nat.{ℕ}
+-- `read_id` meets its contract: where the walk stopped is the verdict.
+use Rattle.std.proofs.Common.{arith, rules, ◌≡◌, ◌≤◌, sym, ℕ, length, w8, Fits, List, get_or, ap, ◌∙◌, Ok, Result}
+use Rattle.std.proofs.iter.Serving.{serving}
+use Rattle.form.specs.Regex.{judge}
+use Rattle.form.specs.Listings.{id_form}
+use Rattle.form.specs.Verdict.{Verdict, of_form, value_by}
+use Rattle.form.specs.declared.Stop.{Stop}
 use Rattle.octets.proofs.Lists.{bytes}
+use Rattle.uuid_text.specs.Id.{byte_at, id_of, read_id}
+use Rattle.uuid_text.specs.Row.{StopsAt}
+use Rattle.uuid_text.proofs.Made.{made}
 use Rattle.uuid_text.proofs.Walk.{goes_through, stops_there}
-use Rattle.uuid_text.proofs.Answers.{read_fits, read_stops}
 use Rattle.uuid_text.proofs.read_id.Goals as goal
 
-pub bytes_of-id-requires : goal.bytes_of-id-requires
-bytes_of-id-requires c = goes_through _ ((bytes c.args.s.now (λ (i : ℕ). (c.type_inv.s i).fits))) _ c.stop_of-stop.ensures c.if-stop-s.true
+-- the answer that goes with a verdict
+abbrev answer : List ℕ → Verdict → Result (List ℕ) Stop
+answer s v = value_by v (id_of s)
 
-pub returns-then-stop-s : goal.returns-then-stop-s
-returns-then-stop-s c =
-    read_fits _ _ (goes_through _ ((bytes c.args.s.now (λ (i : ℕ). (c.type_inv.s i).fits))) _ c.stop_of-stop.ensures c.if-stop-s.true) c.bytes_of-id.ensures
+pub returns-then-stop-lt36 : goal.returns-then-stop-lt36
+unfolding read_id
+returns-then-stop-lt36 c =
+    let s = c.args.s.now in
+    let w : StopsAt s c.from-stop.result = rw c.from-stop.ensures c.stop_of.ensures in
+    ap (answer s)
+    (stops_there s (bytes s (λ (i : ℕ). (c.type_inv.s i).fits)) _ w
+    c.then-stop-lt36.either)
+
+formed : (s : List ℕ) → ((i : ℕ) → Fits w8 (get_or s i 0)) → (k stop : ℕ) → StopsAt s k → stop ≡ k → 36 ≤ stop → length s ≡ 36 →
+    judge id_form s ≡ of_form
+formed s small k stop w e h l = goes_through s (bytes s (λ (i : ℕ). (small i).fits)) k w (omega arith) l
+
+pub from_fn-requires : goal.from_fn-requires
+from_fn-requires c =
+    let e = formed c.args.s.now c.type_inv.s _ _ c.stop_of.ensures c.from-stop.ensures (search rules) (search rules) in
+    (search rules, grind serving)
 
 pub returns : goal.returns
-returns c = read_stops _ _ (stops_there _ ((bytes c.args.s.now (λ (i : ℕ). (c.type_inv.s i).fits))) _ c.stop_of-stop.ensures c.if-stop-s.false)
+unfolding read_id id_of
+returns c =
+    let s = c.args.s.now in
+    let e = formed c.args.s.now c.type_inv.s _ _ c.stop_of.ensures c.from-stop.ensures (search rules) (search rules) in
+    let f = c.from_fn.ensures.items in
+    ap Ok (made _ _ (byte_at s) 0 16 (λ i y q h k. (search rules, search rules)) c.from_fn.result f.long f.each) ∙ ap (answer s) (sym e)

@@ -8,9 +8,6 @@ use Rattle.datetime.proofs.calendar.before_month.Goals as goal
 pub returns-then-m-le2 : goal.returns-then-m-le2
 returns-then-m-le2 c = (starts_early c.args.l c.args.m (omega arith) (omega arith), omega arith)
 
-pub overflow_sub-result : goal.overflow_sub-result
-overflow_sub-result c = omega arith
-
 pub returns : goal.returns
 returns c = let a = c.args in (
   ap (λ (x : ℕ). even a.m - x) c.lack-less.ensures.0 ∙ starts_late a.l a.m (omega arith) (omega arith),

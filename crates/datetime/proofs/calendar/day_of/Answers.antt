@@ -9,4 +9,5 @@ pub returns : goal.returns
 returns c = (
   ap (λ (x : ℕ). (12 * x + 373) % 367 / 12 + 1) c.evened.ensures.0 ∙ day_at c.args.l c.args.k c.requires,
   omega arith,
+  omega arith,
 )

@@ -5,19 +5,9 @@ use Prim.Native.Nat.{ℕ, ◌+◌, ◌*◌, ◌/◌}
 use Rattle.datetime.proofs.Formulas.{month_at}
 use Rattle.datetime.proofs.calendar.month_of.Goals as goal
 
-pub evened-requires : goal.evened-requires
-evened-requires c = c.requires
-
-pub overflow_mul-result : goal.overflow_mul-result
-overflow_mul-result c = omega arith
-
-pub overflow_add-result : goal.overflow_add-result
-overflow_add-result c = omega arith
-
 pub returns : goal.returns
 returns c = (
-  ap (λ (x : ℕ). (12 * x + 373) / 367) c.evened.ensures.0 ∙ month_at c.args.l c.args.k
-      c.requires,
+  ap (λ (x : ℕ). (12 * x + 373) / 367) c.evened.ensures.0 ∙ month_at c.args.l c.args.k c.requires,
   omega arith,
   omega arith,
 )

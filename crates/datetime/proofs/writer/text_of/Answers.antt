@@ -8,7 +8,7 @@ use Rattle.datetime.proofs.writer.text_of.Goals as goal
 
 pub returns : goal.returns
 unfolding date_time_text
-returns c = let date = c.date_of.ensures.0 in
+returns c = let date = c.date_of.ensures in
     let n = c.since_zero-n in
     c.spell.ensures
     ∙ (λ i. utc_text (civil_on (date.0 i) (date.1 i) (date.2 i) (n.result % 86400000)))

@@ -1,9 +1,6 @@
-use Rattle.std.proofs.Common.{◌≡◌, ◌-◌, ◌≤◌, length, take}
+use Rattle.std.proofs.Common.{◌≡◌, length, take}
 use Rattle.sha256.specs.Sha256.{schedule}
 use Rattle.sha256.proofs.schedule.begun.Given as goal
 
 abbrev pub invariant-loop-t : goal.invariant-loop-t
-invariant-loop-t l = (l.t ≤ 16) × (length l.w ≡ 64) × (take l.t l.w ≡ schedule l.t l.block)
-
-abbrev pub decreases-loop-t : goal.decreases-loop-t
-decreases-loop-t l = 16 - l.t
+invariant-loop-t l = (length l.w ≡ 64) × (take l.t l.w ≡ schedule l.t l.block)

@@ -1,20 +1,15 @@
--- `sha256::tail::marked` meets its contract. The loop's invariant: the first i bytes of the rest are copied, and zeros follow.
-use Rattle.std.proofs.Common.{refl, arith, length-set, rules}
+-- `sha256::tail::marked` meets its contract: what follows the whole blocks is put at the front of zeros, and the mark behind it.
+use Rattle.std.proofs.Common.{◌≡◌, ◌*◌, ◌/◌, ℕ, length, drop, length-drop, ap, ◌∙◌, arith}
 use Rattle.octets.specs.Parts.{zeros}
-use Rattle.sha256.proofs.Padding.{copy_step, mark_step}
+use Rattle.sha256.specs.Parts.{rest}
+use Rattle.sha256.proofs.Padding.{marked_rest}
 use Rattle.sha256.proofs.tail.marked.Goals as goal
 
-pub loop-i-init : goal.loop-i-init
-unfolding zeros
-loop-i-init c = (search rules, refl, refl)
-
-pub loop-i-preserved : goal.loop-i-preserved
-loop-i-preserved c =
-    let l = c.loop-i in
-    let m = c.args.message.now in
-    (search rules, simp length-set l.invariant.1, copy_step m l.out _ l.i 128 l.invariant.2 (omega arith) (omega arith))
-
 pub returns : goal.returns
+unfolding zeros
 returns c =
-    let l = c.loop-i in
-    mark_step c.args.message.now l.out l.i 128 l.invariant.2 (omega arith) (omega arith)
+    let m = c.args.message.now in
+    let e : length m / 64 * 64 ≡ 64 * (length m / 64) = omega arith in
+    let left : c.as_chunks.result.1.now ≡ rest m = c.as_chunks.ensures.back ∙ ap (λ (k : ℕ). drop k m) e in
+    let stored : c.copy_from_slice.new.self ≡ rest m = c.copy_from_slice.ensures.after ∙ left in
+    rw (stored, left) (marked_rest (rest m) 128 (omega (arith, length-drop (64 * (length m / 64)) m)))

@@ -1,11 +1,5 @@
-use Prim.Native.Nat.{◌-◌, ◌≤◌}
-use Rattle.record.specs.Rows.{rows}
 use Rattle.shape.proofs.Slots.{Counted}
 use Rattle.shape.proofs.records.scan_open.Given as goal
 
-abbrev pub invariant-loop-k : goal.invariant-loop-k
-invariant-loop-k l =
-    (l.k ≤ l.slots) × Counted l.accounts (rows l.slots l.opened) l.k l.taken l.units l.remainder
-
-abbrev pub decreases-loop-k : goal.decreases-loop-k
-decreases-loop-k l = l.slots - l.k
+abbrev pub invariant-loop-row : goal.invariant-loop-row
+invariant-loop-row l = Counted l.accounts l.slots l.row-index l.taken l.reserved

@@ -14,7 +14,8 @@ decode-h-requires c = (formed_facts _ (sym c.is_formed.ensures ∙ c.if-is_forme
 pub place_word-requires : goal.place_word-requires
 place_word-requires c =
     let s = c.args in
-    place_low (book_of c.decode-h.result s.opened.now s.ended.now) s.id.now (let fact : length c.decode-h.result.accounts ≡ 32 = search (rules, length_unmap) depth 8 in fact) _ c.place.ensures
+    let accounts : length c.decode-h.result.accounts ≡ 32 = search (rules, length_unmap) depth 8 in
+    place_low (book_of c.decode-h.result s.opened.now s.ended.now) s.id.now accounts _ c.place.ensures
 
 pub returns-then-is_formed : goal.returns-then-is_formed
 returns-then-is_formed c =

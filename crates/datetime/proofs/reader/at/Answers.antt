@@ -1,7 +1,0 @@
--- `at`: 0 past the end.
-use mathlib.Core.Path.{sym}
-use lib.ListN.{get_or-eq_default}
-use Rattle.datetime.proofs.reader.at.Goals as goal
-
-pub returns : goal.returns
-returns c = sym (get_or-eq_default c.args.s.now 0 c.if-i-s.false)

@@ -1,8 +1,0 @@
--- `abort_line`: the call on the fields that were cut out.
-use mathlib.Core.Path.{◌∙◌}
-use Rattle.desk.proofs.abort_line.Goals as goal
-
-pub returns : goal.returns
-returns c =
-    c.abort.ensures
-    ∙ rw (c.piece.ensures, c.piece-2.ensures, c.piece-3.ensures)

@@ -1,8 +1,0 @@
--- `fulfil_line`: the call on the fields that were cut out.
-use mathlib.Core.Path.{◌∙◌}
-use Rattle.desk.proofs.fulfil_line.Goals as goal
-
-pub returns : goal.returns
-returns c =
-    c.fulfil.ensures
-    ∙ rw (c.piece.ensures, c.piece-2.ensures, c.piece-3.ensures)
