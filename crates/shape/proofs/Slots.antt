@@ -1,5 +1,5 @@
 -- The pass over the open book: what is known of the first slots, and how it comes to what the book holds.
-use Prim.Native.Nat.{ℕ, ◌+◌, ◌*◌, ◌<◌, ◌≤◌, ◌^◌}
+use Prim.Native.Nat.{ℕ, ◌+◌, ◌*◌, ◌<◌, ◌≤◌}
 use mathlib.Core.Path.{◌≡◌, refl, sym, ◌∙◌}
 use mathlib.Core.Bool.{Bool, true, false, cond, ◌&&◌}
 use mathlib.Core.List.{List, [], ◌∷◌}
@@ -7,15 +7,16 @@ use native.Mathlib.Omega.{arith}
 use lib.ListN.{length, take, get_or}
 use lib.Seq.{take_all}
 use mir.Val.{bool_byte}
+use borrow.Author.Tests.{le-leb, lt-leb}
 use Rattle.std.specs.Prelude.{Some, None}
 use Rattle.std.specs.List.{list_all, fold}
 use Rattle.octets.specs.Lists.{all, count, sum}
-use Rattle.octets.proofs.Tests.{and-true, and_assoc}
-use Rattle.octets.proofs.Walk.{all_more, all_fails, sum_more, count_more}
+use Rattle.octets.proofs.Tests.{and-true, and-false, and_assoc}
+use Rattle.octets.proofs.Walk.{all_more, all_fails, sum_more, sum-part, count_more}
 use Rattle.record.specs.Layout.{Row, num, amount_of, remainder_field, units_field}
 use Rattle.shape.specs.Reading.{is_taken}
 use Rattle.shape.specs.Shape.{open_ok}
-use Rattle.shape.specs.Scan.{held_in_book}
+use Rattle.shape.specs.Scan.{held_in_book, most_reserved}
 
 -- what is known of the first k slots
 pub record Counted (accounts : ℕ) (rs : List Row) (k taken reserved : ℕ) : Type 0 where
@@ -23,7 +24,7 @@ pub record Counted (accounts : ℕ) (rs : List Row) (k taken reserved : ℕ) : T
   pub counts : taken ≡ count is_taken (take k rs)
   pub sums : reserved ≡ sum amount_of (take k rs)
   pub few : taken ≤ k
-  pub small : reserved ≤ k * 2 ^ 78
+  pub most : reserved ≤ most_reserved
 
 -- the library's `all`, and its `fold` of a test
 module _ {A : Type 0} (q : A → Bool) where
@@ -49,28 +50,40 @@ one-or-none false = omega arith
 
 module _ (accounts : ℕ) (rs : List Row) where
   pub count-start : Counted accounts rs 0 0 0
-  count-start = record { each = refl; counts = refl; sums = refl; few = omega arith; small = omega arith }
-
-  pub count-step : (k taken reserved t units remainder : ℕ) → Counted accounts rs k taken reserved → k < length rs →
-      open_ok accounts (get_or rs k []) ≡ true → t ≡ cond (is_taken (get_or rs k [])) 1 0 → units ≡ num units_field (get_or rs k []) →
-      remainder ≡ num remainder_field (get_or rs k []) → units < 2 ^ 64 → remainder < 2 ^ 16 →
-      Counted accounts rs (k + 1) (taken + t) (reserved + (units * 10000 + remainder))
-  count-step k taken reserved t units remainder c h ok e f g u m = record {
-    each = all_more (open_ok accounts) rs k [] h ∙ rw (c.each, ok);
-    counts = rw (c.counts, e) (sym (count_more is_taken rs k [] h));
-    sums = rw (c.sums, f, g) (sym (sum_more amount_of rs k [] h));
-    few = omega (arith, c.few, one-or-none (is_taken (get_or rs k [])));
-    small = omega (arith, c.small);
-  }
+  count-start = record { each = refl; counts = refl; sums = refl; few = omega arith; most = omega arith }
 
   pub book_wrong : (k : ℕ) → k < length rs → open_ok accounts (get_or rs k []) ≡ false → None ≡ held_in_book accounts rs
   unfolding held_in_book
   book_wrong k h e = rw (all_fails (open_ok accounts) rs k [] e h)
 
-  pub count-done : (k taken reserved : ℕ) → Counted accounts rs k taken reserved → length rs ≤ k →
-      Some (record { taken = taken; reserved = reserved }) ≡ held_in_book accounts rs
+  book_over : most_reserved < sum amount_of rs → None ≡ held_in_book accounts rs
   unfolding held_in_book
-  count-done k taken reserved c h =
-      let whole : take k rs ≡ rs = take_all k rs h in
-      let e : all (open_ok accounts) rs ≡ true = rw whole at c.each in
-      rw (e, c.counts, c.sums, whole)
+  book_over h = rw (lt-leb (sum amount_of rs) most_reserved h, and-false (all (open_ok accounts) rs))
+
+  module _ (k taken reserved : ℕ) (c : Counted accounts rs k taken reserved) where
+    module _ (units remainder : ℕ) (h : k < length rs) (f : units ≡ num units_field (get_or rs k []))
+        (g : remainder ≡ num remainder_field (get_or rs k [])) where
+      reserved_more : reserved + (units * 10000 + remainder) ≡ sum amount_of (take (k + 1) rs)
+      reserved_more = rw (c.sums, f, g) (sym (sum_more amount_of rs k [] h))
+
+      pub count_over : most_reserved < reserved + (units * 10000 + remainder) → None ≡ held_in_book accounts rs
+      count_over l = book_over (omega (arith, reserved_more, sum-part amount_of rs (k + 1)))
+
+      pub count-step : (t : ℕ) → open_ok accounts (get_or rs k []) ≡ true → t ≡ cond (is_taken (get_or rs k [])) 1 0 →
+          reserved + (units * 10000 + remainder) ≤ most_reserved →
+          Counted accounts rs (k + 1) (taken + t) (reserved + (units * 10000 + remainder))
+      count-step t ok e l = record {
+        each = all_more (open_ok accounts) rs k [] h ∙ rw (c.each, ok);
+        counts = rw (c.counts, e) (sym (count_more is_taken rs k [] h));
+        sums = reserved_more;
+        few = omega (arith, c.few, one-or-none (is_taken (get_or rs k [])));
+        most = l;
+      }
+
+    pub count-done : length rs ≤ k → Some (record { taken = taken; reserved = reserved }) ≡ held_in_book accounts rs
+    unfolding held_in_book
+    count-done h =
+        let whole : take k rs ≡ rs = take_all k rs h in
+        let e : all (open_ok accounts) rs ≡ true = rw whole at c.each in
+        let l : sum amount_of rs ≤ most_reserved = rw (← whole, ← c.sums) c.most in
+        rw (e, le-leb (sum amount_of rs) most_reserved l, c.counts, c.sums, whole)

@@ -25,12 +25,12 @@ use Rattle.record.proofs.Rows.{length-rows, rows_at}
 use Rattle.rules.specs.Rules.{highest_cap, sameℤ}
 use Rattle.shape.specs.Reading.{Book, names_of, open_rows, ended_rows, open_count, is_taken}
 use Rattle.shape.specs.Shape.{shape, lengths_ok, account_ok, none_twice, open_ok, ended_ok, total}
-use Rattle.shape.specs.Scan.{accounts_ok, open_book_ok, ended_book_ok}
+use Rattle.shape.specs.Scan.{accounts_ok, open_book_ok, ended_book_ok, below_of}
 use Rattle.shape.specs.Sound.{SoundRecord, SoundLengths, Sound}
 use Rattle.shape.proofs.Facts.{account_sound, account_ok_lem, position_most, lengths_sound, lengths_ok_lem}
 use Rattle.shape.proofs.Facts.{slot_sound, slot_ok, ended_sound, ended_ok_lem}
 use Rattle.shape.proofs.Names.{length_accounts, account_at_lem}
-use Rattle.shape.proofs.Bounds.{below_of, same_yes, total_split, most_above}
+use Rattle.shape.proofs.Bounds.{same_yes, total_split, most_above}
 use Rattle.shape.proofs.Together.{together, judged, judged_at, few_accounts}
 
 -- the test of equality

@@ -25,9 +25,10 @@ use Rattle.shape.specs.Reading.{Book, names_of, is_taken}
 use Rattle.shape.specs.Shape.{shape, lengths_ok, account_ok, none_twice, open_ok, ended_ok, total}
 use Rattle.shape.specs.declared.records.Held.{Held}
 use Rattle.std.specs.Prelude.{Option, Some, None}
-use Rattle.shape.specs.Scan.{accounts_ok, Judged, Sized, held_in_book, open_book_ok, ended_book_ok}
+use Rattle.shape.specs.Scan.{accounts_ok, Judged, Sized, most_reserved, held_in_book, open_book_ok, ended_book_ok, below_of, most_below, total_in_reach}
 use Rattle.shape.specs.Sound.{SoundAccount}
 use Rattle.shape.proofs.Facts.{account_sound}
+use Rattle.shape.proofs.Bounds.{too_much, too_low}
 use Rattle.shape.proofs.Names.{length_accounts, account_at_lem}
 
 regroup : (l c a n o e z p s : Bool) →
@@ -80,15 +81,36 @@ same_bits (pos a) n h k = rw (to_z_pos w128 k) (go (leb a n) refl (leb n a) refl
     go false e t f = ne_eqb a n (λ g. omega (arith, leb-false a n e, g))
 same_bits (negsuc a) n h k = rw (to_z_pos w128 k) (ne_eqb (2 ^ 128 - suc a) n (λ e. omega arith))
 
+-- the positions by what the sum over them gives
+module _ (h : Head) where
+  pub out_of_balance : Judged h → None ≡ total_in_reach (accounts_of h) → (n : ℕ) → sameℤ (total (accounts_of h)) (pos n) ≡ false
+  unfolding total_in_reach
+  out_of_balance j e n = go (leb (sum below_of (accounts_of h)) most_below) refl e
+    where
+      go : (t : Bool) → leb (sum below_of (accounts_of h)) most_below ≡ t → None ≡ cond t (Some (total (accounts_of h))) None →
+          sameℤ (total (accounts_of h)) (pos n) ≡ false
+      go true t f = cc
+      go false t f = too_low (accounts_of h) n (few_accounts h j.few) j.each (leb-false _ _ t)
+
+  pub total_is : (z : ℤ) → Some z ≡ total_in_reach (accounts_of h) → z ≡ total (accounts_of h)
+  unfolding total_in_reach
+  total_is z e = go (leb (sum below_of (accounts_of h)) most_below) e
+    where
+      go : (t : Bool) → Some z ≡ cond t (Some (total (accounts_of h))) None → z ≡ total (accounts_of h)
+      go true f = cc
+      go false f = cc
+
 -- a book of so many slots
 pub all_slots : (slots : ℕ) (book : List ℕ) → Sized slots book → rows (length book / 160) book ≡ rows slots book
 all_slots slots book sized = let e : length book / 160 ≡ slots = omega (arith, sized.long) in ap (λ (n : ℕ). rows n book) e
 
 -- the open book beside the head, by what its slots hold
 module _ (h : Head) (opened : List ℕ) (sized : Sized h.slots opened) where
-  pub open_wrong : None ≡ held_in_book h.count (rows (length opened / 160) opened) → false ≡ open_book_ok h opened
+  pub open_wrong : Judged h → None ≡ held_in_book h.count (rows (length opened / 160) opened) → false ≡ open_book_ok h opened
   unfolding held_in_book open_book_ok
-  open_wrong e = go (all (open_ok h.count) rs) refl (e ∙ ap (held_in_book h.count) (all_slots h.slots opened sized))
+  open_wrong j e =
+      go (all (open_ok h.count) rs) (leb (sum amount_of rs) most_reserved) refl refl
+      (e ∙ ap (held_in_book h.count) (all_slots h.slots opened sized))
     where
       rs : List Row
       rs = rows h.slots opened
@@ -96,27 +118,31 @@ module _ (h : Head) (opened : List ℕ) (sized : Sized h.slots opened) where
       found : Option Held
       found = Some (record { taken = count is_taken rs; reserved = sum amount_of rs })
 
-      go : (t : Bool) → all (open_ok h.count) rs ≡ t → None ≡ cond t found None →
+      go : (t u : Bool) → all (open_ok h.count) rs ≡ t → leb (sum amount_of rs) most_reserved ≡ u → None ≡ cond (t && u) found None →
           false ≡ t && (leb (count is_taken rs + h.finished) h.places && sameℤ (total (accounts_of h)) (pos (sum amount_of rs)))
-      go true t f = cc
-      go false t f = refl
+      go true true t u f = cc
+      go true false t u f =
+          rw (too_much (accounts_of h) (sum amount_of rs) (few_accounts h j.few) j.each (leb-false _ _ u))
+          (sym (and-false (leb (count is_taken rs + h.finished) h.places)))
+      go false u t f e = refl
 
   pub open_right : (held : Held) → Some held ≡ held_in_book h.count (rows (length opened / 160) opened) →
       leb (held.taken + h.finished) h.places && sameℤ (total (accounts_of h)) (pos held.reserved) ≡ open_book_ok h opened
   unfolding held_in_book open_book_ok
-  open_right held e = go (all (open_ok h.count) rs) refl (e ∙ ap (held_in_book h.count) (all_slots h.slots opened sized))
+  open_right held e =
+      go (all (open_ok h.count) rs) (leb (sum amount_of rs) most_reserved) (e ∙ ap (held_in_book h.count) (all_slots h.slots opened sized))
     where
       rs : List Row
       rs = rows h.slots opened
 
-      go : (t : Bool) → all (open_ok h.count) rs ≡ t →
-          Some held ≡ cond t (Some (record { taken = count is_taken rs; reserved = sum amount_of rs })) None →
+      go : (t u : Bool) → Some held ≡ cond (t && u) (Some (record { taken = count is_taken rs; reserved = sum amount_of rs })) None →
           leb (held.taken + h.finished) h.places && sameℤ (total (accounts_of h)) (pos held.reserved)
           ≡ t && (leb (count is_taken rs + h.finished) h.places && sameℤ (total (accounts_of h)) (pos (sum amount_of rs)))
-      go true t f =
+      go true true f =
           let g : held ≡ record { taken = count is_taken rs; reserved = sum amount_of rs } = cc in
           rw (ap (λ (x : Held). x.taken) g, ap (λ (x : Held). x.reserved) g)
-      go false t f = cc
+      go true false f = cc
+      go false u f = cc
 
 pub open_room : (h : Head) (opened : List ℕ) → open_book_ok h opened ≡ true → h.finished ≤ h.places
 unfolding open_book_ok

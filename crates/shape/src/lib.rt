@@ -5,9 +5,9 @@ mod accounts;
 mod balance;
 mod records;
 
-ghost use Rattle.std.specs.Prelude.{◌≡◌, ◌≤◌};
+ghost use Rattle.std.specs.Prelude.{◌≡◌};
 ghost use Rattle.shape.specs.Shape.{shape, lengths_ok};
-ghost use Rattle.shape.specs.Scan.{open_book_ok, Sized};
+ghost use Rattle.shape.specs.Scan.{open_book_ok, Sized, Judged};
 
 use account::Head;
 
@@ -27,15 +27,18 @@ fn lengths_ok(h: Head, opened: &[u8], ended: &[u8]) -> bool
 
 // The open book beside the head: its slots, the places that its transfers will want, and the balance.
 fn open_ok(h: Head, opened: &[u8]) -> bool
-    requires { Sized h.slots opened.now × (h.count ≤ 32) }
+    requires { Sized h.slots opened.now × Judged h }
     ensures { result ≡ open_book_ok h opened.now }
 {
     let Some(held) = records::scan_open(record::records(opened), h.count) else {
         return false;
     };
+    let Some(sum) = balance::total(h) else {
+        return false;
+    };
     let places = usize::from(h.places);
     let finished = usize::from(h.finished);
-    held.taken + finished <= places && balance::total(h) == held.reserved.cast_signed()
+    held.taken + finished <= places && sum == held.reserved.cast_signed()
 }
 
 /// Whether the head and the two books fit each other and are of the shape.

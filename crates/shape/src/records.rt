@@ -1,10 +1,13 @@
 // The records' part of the shape.
-ghost use Rattle.std.specs.Prelude.{◌≡◌, ◌*◌, ◌^◌, ◌≤◌, length, IfSome};
+ghost use Rattle.std.specs.Prelude.{◌≡◌, ◌*◌, ◌≤◌, length, IfSome};
 ghost use Rattle.octets.specs.Lists.{all};
 ghost use Rattle.shape.specs.Shape.{record_ok, open_ok, ended_ok};
-ghost use Rattle.shape.specs.Scan.{held_in_book, ended_book_ok};
+ghost use Rattle.shape.specs.Scan.{most_reserved, held_in_book, ended_book_ok};
 
 use record::Row;
+
+// 32 times 10^17 units, in ten-thousandths: no position is above 10^17 units and there are at most 32, so no positions sum to more.
+const MOST_RESERVED: u128 = 32_000_000_000_000_000_000_000;
 
 // What the open book holds: how many slots are taken, and what their amounts are together, in ten-thousandths.
 #[derive(Clone, Copy)]
@@ -52,11 +55,11 @@ fn ended_ok(row: &Row, accounts: u8) -> bool
     (committed | aborted) & record_ok(row, accounts)
 }
 
-// What the slots hold together, where each is of the shape.
+// What the slots hold together, where each is of the shape and positions can sum to it.
 pub(crate) fn scan_open(slots: &[Row], accounts: u8) -> Option<Held>
     requires { length slots.now ≤ 1024 }
     ensures found { result ≡ held_in_book accounts slots.now }
-    ensures small { IfSome result (λ held. (held.taken ≤ 1024) × (held.reserved ≤ 1024 * 2 ^ 78)) }
+    ensures small { IfSome result (λ held. (held.taken ≤ 1024) × (held.reserved ≤ most_reserved)) }
 {
     let mut taken = 0;
     let mut reserved = 0;
@@ -67,6 +70,9 @@ pub(crate) fn scan_open(slots: &[Row], accounts: u8) -> Option<Held>
         let amount = record::amount_of(row);
         taken += usize::from(row[16] != 0);
         reserved += u128::from(amount.units) * 10000 + u128::from(amount.remainder);
+        if MOST_RESERVED < reserved {
+            return None;
+        }
     }
     Some(Held { taken, reserved })
 }

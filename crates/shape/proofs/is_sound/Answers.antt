@@ -8,7 +8,7 @@ pub open_ok-requires : goal.open_ok-requires
 open_ok-requires c =
     let lengths = lengths_sound (record { head = c.args.h; opened = c.args.opened.now; ended = c.args.ended.now })
     (sym c.lengths_ok.ensures ∙ c.if-lengths_ok.true) in
-    (record { long = lengths.opened; few = lengths.few_slots }, (judged c.args.h (sym c.all_ok.ensures ∙ c.if-all_ok.true)).few)
+    (record { long = lengths.opened; few = lengths.few_slots }, judged c.args.h (sym c.all_ok.ensures ∙ c.if-all_ok.true))
 
 pub ended_book_ok-requires : goal.ended_book_ok-requires
 ended_book_ok-requires c =
