@@ -5,8 +5,9 @@ use mathlib.Core.Bool.{Bool, true, false, cond, not, ◌&&◌}
 use mathlib.Core.List.{List, [], ◌∷◌}
 use native.Mathlib.Omega.{arith}
 use Rattle.std.specs.List.{list_any, onto_first, slice_split}
+use Rattle.std.proofs.lemmas.List.Folds.{list_any_at, list_any_more}
 use lib.Dec.{eqb, eqb-suc-zero, leb}
-use lib.ListN.{length, take, drop, length-drop}
+use lib.ListN.{length, take, drop, get_or, length-drop}
 use lib.Seq.{take_all, drop-drop}
 use borrow.Author.Tests.{le-leb, lt-leb}
 use Rattle.octets.specs.Parts.{part}
@@ -115,3 +116,29 @@ module _ (s : List ℕ) where
 
   pub few_pieces : length (pieces s) ≤ 9 → list_any is_empty (pieces s) ≡ false → length (pieces s) ≡ length (words_of s)
   few_pieces h e = sym (counted false e ∙ rw (le-leb (length (pieces s)) 9 h))
+
+-- one by one: n parts were yielded, none of them empty, and the next is p
+abbrev none_of : ℕ → List (List ℕ) → Bool
+none_of n ps = list_any (λ p. eqb (length p) 0) (take n ps)
+
+module _ (s : List ℕ) (n k : ℕ) (so_far : n ≡ k) where
+  abbrev parts : List (List ℕ)
+  parts = slice_split (λ c. eqb c 32) s
+
+  module _ (p : List ℕ) (here : (k < length parts) × (p ≡ get_or parts k p)) where
+    pub one_more : none_of n (pieces s) ≡ false → eqb (length p) 0 ≡ false → none_of (n + 1) (pieces s) ≡ false
+    one_more none e = rw (sym (cut_parts 32 s), so_far)
+        (list_any_more (λ q. eqb (length q) 0) parts k p here.0 ∙ rw (sym here.1, sym so_far, cut_parts 32 s, none) e)
+
+    pub an_empty : eqb (length p) 0 ≡ true → 0 ≡ length (words_of s)
+    an_empty e = empty_piece s (rw (sym (no_byte (pieces s)), sym (cut_parts 32 s))
+        (list_any_at (λ q. eqb (length q) 0) parts k p here.0 (rw (sym here.1) e)))
+
+    pub a_tenth : n ≡ 9 → 0 ≡ length (words_of s)
+    a_tenth e = too_many s (rw (sym (cut_parts 32 s)) (omega (arith, here.0)))
+
+  pub all_counted : k ≡ length parts → n ≤ 9 → none_of n (pieces s) ≡ false → n ≡ length (words_of s)
+  all_counted end h none =
+      let l : n ≡ length (pieces s) = so_far ∙ end ∙ ap length (cut_parts 32 s) in
+      l ∙ few_pieces s (omega (arith, l)) (sym (no_byte (pieces s))
+      ∙ ap (list_any (λ q. eqb (length q) 0)) (sym (take_all n (pieces s) (omega (arith, l)))) ∙ none)
