@@ -255,7 +255,10 @@ pub fn move_ended(opened: &mut [u8], ended: &mut [u8], slot: usize, place: usize
 {
     let from = slot * 160;
     let to = place * 160;
-    octets::put(ended, to, &opened[from..from + 160]);
+    // By value: straight from one lent book into the other would be a memmove, which the library does not ask of a C host.
+    let mut row = [0; 160];
+    row.copy_from_slice(&opened[from..from + 160]);
+    set_ending(&mut row, e);
+    octets::put(ended, to, &row);
     octets::clear(&mut opened[from..from + 160]);
-    set_ending(&mut ended[to..to + 160], e);
 }
