@@ -53,7 +53,9 @@ pub extern "C" fn probe_write_amount(units: u64, remainder: u16, out: &mut [u8])
 
 #[unsafe(no_mangle)]
 pub extern "C" fn probe_read_id(s: &[u8], out: &mut [u8]) -> u64 {
-    told(uuid_text::read_id(s), |id| hand_over(&id, out))
+    let mut id = [0; 16];
+    let read = uuid_text::read_into(s, &mut id);
+    told(read, |()| hand_over(&id, out))
 }
 
 #[unsafe(no_mangle)]

@@ -1,5 +1,5 @@
 -- The 16 bytes of an id, and their text (01, "Id"; listing 14 of 001).
-use Rattle.std.specs.Prelude.{ℕ, zero, suc, ◌+◌, ◌-◌, ◌*◌, ◌/◌, ◌%◌, List, [], ◌∷◌, ◌++◌, Bool, false, cond, ◌&&◌, ◌||◌, ltb, leb, eqb, length, get_or, Result, Err}
+use Rattle.std.specs.Prelude.{ℕ, zero, suc, ◌+◌, ◌-◌, ◌*◌, ◌/◌, ◌%◌, List, [], ◌∷◌, ◌++◌, Bool, false, cond, ◌&&◌, ◌||◌, ltb, leb, eqb, length, get_or, Result, Err, is_ok}
 use Prim.Native.Char.{code}
 use Rattle.octets.specs.Build.{build}
 use Rattle.form.specs.Regex.{judge}
@@ -35,6 +35,10 @@ id_of s = build 16 (byte_at s)
 -- a text of the form has its bytes
 unfoldable pub read_id : List ℕ → Result (List ℕ) Stop
 read_id s = value_by (judge id_form s) (id_of s)
+
+-- what an array holds after the read that held other bytes before
+abbrev pub id_left : List ℕ → List ℕ → List ℕ
+id_left s old = cond (is_ok (judge id_form s)) (id_of s) old
 
 -- the text of byte k, of value x, and of all bytes before it
 abbrev pub pair_text : ℕ → List ℕ

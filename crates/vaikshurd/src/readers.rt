@@ -54,12 +54,17 @@ fn hand_over<const N: usize>(read: Result<[u8; N], Stop>, out: &mut [u8]) -> u64
     packed(Answer::Done, 0)
 }
 
-// Id: 1; 23 where fewer than 16 bytes are lent.
+// Id: 1; 23 where fewer than 16 bytes are lent. By `read_into`: here reading is all the work, and `read_id` takes 1.4 times as long.
 #[unsafe(no_mangle)]
+#[tactic(auto, unfolding(uuid_text::specs::Id::read_id))]
 pub extern "C" fn vaik_read_id(text: &[u8], id: &mut [u8]) -> u64
     ensures { (result, id.new) ≡ bytes_left (read_id text.now) id.old }
 {
-    hand_over(uuid_text::read_id(text), id)
+    let mut value = [0; 16];
+    if uuid_text::read_into(text, &mut value).is_err() {
+        return packed(Answer::NotInForm, 0);
+    }
+    hand_over(Ok(value), id)
 }
 
 // Condition and fulfilment: 1; 23 where fewer than 32 bytes are lent.

@@ -1,43 +1,29 @@
--- `read_id` meets its contract: where the walk stopped is the verdict.
-use Rattle.std.proofs.Common.{arith, rules, ◌≡◌, ◌≤◌, sym, ℕ, length, w8, Fits, List, get_or, ap, ◌∙◌, Ok, Result}
-use Rattle.std.proofs.iter.Serving.{serving}
+-- `read_id` meets its contract: verdict and bytes are those of `read_into`.
+use Rattle.std.proofs.Common.{◌≡◌, sym, ap, cond, List, ℕ, Result, Ok, Err, is_ok, ◌∙◌}
+use Rattle.std.specs.Prelude.{IsErrAnd, ⊤}
+use Rattle.std.proofs.lemmas.Result.{err_from_is_err_and}
 use Rattle.form.specs.Regex.{judge}
 use Rattle.form.specs.Listings.{id_form}
-use Rattle.form.specs.Verdict.{Verdict, of_form, value_by}
+use Rattle.form.specs.Verdict.{Verdict, value_by}
 use Rattle.form.specs.declared.Stop.{Stop}
-use Rattle.octets.proofs.Lists.{bytes}
-use Rattle.uuid_text.specs.Id.{byte_at, id_of, read_id}
-use Rattle.uuid_text.specs.Row.{StopsAt}
-use Rattle.uuid_text.proofs.Made.{made}
-use Rattle.uuid_text.proofs.Walk.{goes_through, stops_there}
+use Rattle.uuid_text.specs.Id.{id_of, id_left, read_id}
 use Rattle.uuid_text.proofs.read_id.Goals as goal
 
--- the answer that goes with a verdict
-abbrev answer : List ℕ → Verdict → Result (List ℕ) Stop
-answer s v = value_by v (id_of s)
+module _ (s : List ℕ) {r : Verdict} (e : r ≡ judge id_form s) where
+  went : {u : ⊤} (id old : List ℕ) → r ≡ Ok u → id ≡ id_left s old → Ok id ≡ read_id s
+  unfolding read_id
+  went {u} id old w g =
+      let fit : judge id_form s ≡ Ok u = sym e ∙ w in
+      ap Ok (g ∙ ap (λ (v : Verdict). cond (is_ok v) (id_of s) old) fit) ∙ sym (ap (λ (v : Verdict). value_by v (id_of s)) fit)
 
-pub returns-then-stop-lt36 : goal.returns-then-stop-lt36
-unfolding read_id
-returns-then-stop-lt36 c =
-    let s = c.args.s.now in
-    let w : StopsAt s c.from-stop.result = rw c.from-stop.ensures c.stop_of.ensures in
-    ap (answer s)
-    (stops_there s (bytes s (λ (i : ℕ). (c.type_inv.s i).fits)) _ w
-    c.then-stop-lt36.either)
+  halts : {y : Stop} {out : Result (List ℕ) Stop} → r ≡ Err y → IsErrAnd out (λ x. x ≡ y) → out ≡ read_id s
+  unfolding read_id
+  halts {y} {out} w o =
+      let p = err_from_is_err_and out o in
+      p.1 ∙ ap (λ (x : Stop). Err x) p.2 ∙ sym (ap (λ (v : Verdict). value_by v (id_of s)) (sym e ∙ w))
 
-formed : (s : List ℕ) → ((i : ℕ) → Fits w8 (get_or s i 0)) → (k stop : ℕ) → StopsAt s k → stop ≡ k → 36 ≤ stop → length s ≡ 36 →
-    judge id_form s ≡ of_form
-formed s small k stop w e h l = goes_through s (bytes s (λ (i : ℕ). (small i).fits)) k w (omega arith) l
-
-pub from_fn-requires : goal.from_fn-requires
-from_fn-requires c =
-    let e = formed c.args.s.now c.type_inv.s _ _ c.stop_of.ensures c.from-stop.ensures (search rules) (search rules) in
-    (search rules, grind serving)
+pub returns-in_err-read_into : goal.returns-in_err-read_into
+returns-in_err-read_into c = halts _ c.read_into.ensures.verdict c.in_err-read_into.was c.from_residual.ensures.1
 
 pub returns : goal.returns
-unfolding read_id id_of
-returns c =
-    let s = c.args.s.now in
-    let e = formed c.args.s.now c.type_inv.s _ _ c.stop_of.ensures c.from-stop.ensures (search rules) (search rules) in
-    let f = c.from_fn.ensures.items in
-    ap Ok (made _ _ (byte_at s) 0 16 (λ i y q h k. (search rules, search rules)) c.from_fn.result f.long f.each) ∙ ap (answer s) (sym e)
+returns c = went _ c.read_into.ensures.verdict _ _ c.in_ok-read_into.was c.read_into.ensures.bytes
