@@ -40,11 +40,11 @@ fn hashes(rt: &impl Print) -> io::Result<()> {
     )
 }
 
-// The hash of so many letters a; there are as many as a length of 16 bits can ask for.
+// The hash of so many letters a, at most 32,768.
 fn letters(rt: &impl Print) -> io::Result<()> {
-    let letters = [b'a'; 65536];
-    for n in [55u16, 56, 63, 64, 65, 119, 120, 32768] {
-        let hash = Digest(sha256::hash(&letters[..usize::from(n)]));
+    let letters = [b'a'; 32768];
+    for n in [55, 56, 63, 64, 65, 119, 120, letters.len()] {
+        let hash = Digest(sha256::hash(&letters[..n.min(letters.len())]));
         println!(rt; "  {n} letters a: {hash}")?;
     }
     Ok(())
