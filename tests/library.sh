@@ -37,6 +37,12 @@ checked() { # checked COMMAND..: under valgrind, which must find nothing
     valgrind -q --leak-check=full --show-leak-kinds=all --errors-for-leak-kinds=all --error-exitcode=9 "$@"
 }
 
+# All that the archive asks of its host.
+asks() {
+    asked=$(nm -u build/libvaikshurd.a | sed -n 's/^ *U //p' | sort -u | tr '\n' ' ')
+    [ "$asked" = 'memcpy memset ' ] || { echo "the archive asks for: $asked"; return 1; }
+}
+
 gateway() {
     gcc -std=c99 -pedantic -g $warnings -Iinclude examples/gateway.c build/libvaikshurd.a -o "$room/gateway"
 }
@@ -99,6 +105,7 @@ try 'the header in c99 by clang' constants clang c99
 for standard in c++98 c++11 c++20; do
     try "the header in $standard" constants g++ $standard
 done
+try 'the archive asks its host for memcpy and memset alone' asks
 try 'the example builds without a warning' gateway
 try 'the example in memory, under valgrind' in_memory
 try 'the example over a file, restarted, under valgrind' restarted
